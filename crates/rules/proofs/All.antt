@@ -1,0 +1,20 @@
+-- The theorems of specs/Theorems together.
+use Rattle.rules.specs.Theorems.{Theorems}
+use Rattle.rules.proofs.Refusing.{refusal-changes-nothing, room-always-then, room-only-then}
+use Rattle.rules.proofs.Holding.{assigned-or-revoking, held-once, targeted-once}
+use Rattle.rules.proofs.Removing.{leave-at-end, sweep-at-end, swept-is-difference}
+use Rattle.rules.proofs.Readable.{readable}
+
+pub theorems : Theorems
+theorems = record {
+  refusalChangesNothing = refusal-changes-nothing;
+  roomOnlyThen = room-only-then;
+  roomAlwaysThen = room-always-then;
+  sweptIsDifference = swept-is-difference;
+  heldOnce = held-once;
+  assignedOrRevoking = assigned-or-revoking;
+  targetedOnce = targeted-once;
+  leaveAtEnd = leave-at-end;
+  sweepAtEnd = sweep-at-end;
+  readable = readable;
+}

@@ -1,0 +1,16 @@
+pub mod Basics
+pub mod Constants
+pub mod Group
+pub mod Records
+pub mod Event
+pub mod Answers
+pub mod Refusals
+pub mod Effects
+pub mod Step
+pub mod Reader
+pub mod Ledger
+pub mod Rounds
+pub mod Theorems
+pub mod Running
+pub mod WorkedExample
+pub mod RunCases
