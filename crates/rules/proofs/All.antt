@@ -4,6 +4,8 @@ use Rattle.rules.proofs.Refusing.{refusal-changes-nothing, room-always-
 use Rattle.rules.proofs.Holding.{assigned-or-revoking, held-once, targeted-once}
 use Rattle.rules.proofs.Removing.{leave-at-end, sweep-at-end, swept-is-difference}
 use Rattle.rules.proofs.Readable.{readable}
+use Rattle.rules.proofs.Bounds.{epochs-ordered}
+use Rattle.rules.proofs.Sizes.{batch-fits, never-room}
 
 pub theorems : Theorems
 theorems = record {
@@ -16,5 +18,8 @@ theorems = record {
   targetedOnce = targeted-once;
   leaveAtEnd = leave-at-end;
   sweepAtEnd = sweep-at-end;
+  epochsOrdered = epochs-ordered;
   readable = readable;
+  batchFits = batch-fits;
+  neverRoom = never-room;
 }

@@ -1,15 +1,14 @@
 -- The target in force, while no record 3 was stored since its install.
-use Prim.Native.Nat.{ℕ, zero, suc, _+_, _-_, _≤_, _<_, max, suc-le-suc}
-use native.Mathlib.Nat.{zero-lt-suc}
+use Prim.Native.Nat.{ℕ, zero, suc, _+_, _-_}
 use native.Mathlib.Omega.{arith}
-use mathlib.Core.Path.{_≡_, refl, sym, ap, _∙_, subst}
+use mathlib.Core.Path.{_≡_, refl, sym, ap, _∙_}
 use mathlib.Core.Logic.{_≢_, _⊎_, inl, inr}
-use mathlib.Core.Bool.{Bool, true, false, not, _&&_, _||_, true≢false, false≢true}
-use mathlib.Core.List.{List, [], _∷_, _++_, map, foldl}
+use mathlib.Core.Bool.{Bool, true, false, _||_, false≢true}
+use mathlib.Core.List.{List, [], _∷_, _++_, map}
 use mathlib.Core.Option.{Option, none, some}
-use lib.ListN.{length, getD, set, take, drop}
-use lib.Dec.{eqb, ltb, leb}
-use borrow.Author.Tests.{eqb-true, eqb-false, eq-eqb, ne-eqb}
+use lib.ListN.{length, getD, set, take}
+use lib.Dec.{eqb}
+use borrow.Author.Tests.{eq-eqb, ne-eqb}
 use Rattle.rules.specs.Basics.{any, if_then_else_}
 use Rattle.rules.specs.Constants.{noPlace, slotCount}
 use Rattle.rules.specs.Group.{Member, SlotState, freeSlot}
@@ -18,7 +17,6 @@ use Rattle.rules.specs.Effects.{retargeted, vacated}
 use Rattle.rules.specs.Step.{overlay}
 use Rattle.rules.specs.Ledger.{recordsIn}
 use Rattle.rules.specs.Rounds.{Installed, isEpochRecord, unlessEpoch}
-use Rattle.rules.specs.WorkedExample.{buffer}
 use Rattle.rules.proofs.ReadBack.{AllProper, records-stored}
 use Rattle.rules.proofs.SingleHolder.{eq-cases, id-none, id-other, idIn}
 use Rattle.rules.proofs.Moves.{targetIn}

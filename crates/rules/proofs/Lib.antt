@@ -11,4 +11,6 @@ pub mod Refusing
 pub mod Holding
 pub mod Removing
 pub mod Readable
+pub mod Bounds
+pub mod Sizes
 pub mod All

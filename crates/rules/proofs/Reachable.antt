@@ -1,20 +1,19 @@
 -- What holds between the history and the group after every list of events.
-use Prim.Native.Nat.{ℕ, zero, suc, _+_, _-_, _≤_, _<_, max, suc-le-suc}
-use native.Mathlib.Nat.{le-refl, le-suc, le-max-left, le-max-right, max-le}
+use Prim.Native.Nat.{ℕ, zero, suc, _+_, _-_, _≤_, _<_, max}
 use native.Mathlib.Omega.{arith}
 use mathlib.Core.Path.{_≡_, refl, sym, ap, _∙_, subst}
-use mathlib.Core.Logic.{_≢_, _⊎_, inl, inr}
+use mathlib.Core.Logic.{_≢_, inl}
 use mathlib.Core.Bool.{Bool, true, false, not, _&&_, _||_, true≢false, false≢true}
 use mathlib.Core.List.{List, [], _∷_, _++_, map, foldl}
 use mathlib.Core.Option.{Option, none, some}
 use lib.IntN.{ℤ, pos, negsuc}
-use lib.ListN.{length, getD, set, take, drop, replicate, length-replicate}
-use lib.Dec.{eqb, ltb, leb}
-use borrow.Author.Tests.{eqb-true, eqb-false, eq-eqb, ne-eqb, leb-true, leb-false, ltb-true, ltb-false, le-ltb, lt-ltb}
+use lib.ListN.{length, getD, set, take, replicate, length-replicate}
+use lib.Dec.{eqb, ltb}
+use borrow.Author.Tests.{eqb-true, leb-true, le-ltb}
 use Rattle.rules.specs.Basics.{any, concatMap, default, empty, given, if_then_else_, same}
 use Rattle.rules.specs.Constants.{idLength, lastEpoch, maxMembers, noPlace, slotCount}
 use Rattle.rules.specs.Group.{Group, SlotState, assigned, freeSlot, fresh, known, memberAt, nobody, placeOf, raised, revoking, setA, setP, targeted}
-use Rattle.rules.specs.Records.{Record, allBytes, currentIs, groupEpoch, targetEpoch, targetIs, topicIs}
+use Rattle.rules.specs.Records.{Record, allBytes, currentIs, groupEpoch, targetIs, topicIs}
 use Rattle.rules.specs.Event.{Event, Request, heartbeat, install, sweep, topic}
 use Rattle.rules.specs.Refusals.{Kind, atEnd, heartbeatTable, invalid, isEpoch, joins, kindOf, lacking, leaves, malformed, newSubscription, newTimeout, ordinary, resubscribes, table, topicChanges, topicRaises}
 use Rattle.rules.specs.Effects.{changed, effect, epochAfter, groupEpochAfter, heartbeatEffect, installEffect, installRecords, joinAt, joinEffect, joinPlace, joinRecords, joiner, leaveAt, leaveEffect, leaveRecords, memberAfter, onlyIf, ordinaryEffect, ordinaryRecords, overduePlaces, removalRecords, remove, retargeted, revokes, slotsAfter, sweepEffect, sweepEpoch, sweepOf, sweepRecords, topicEffect, topicEpoch, topicRecords, vacated, waits, withTarget, withTopic}
@@ -22,7 +21,6 @@ use Rattle.rules.specs.Step.{Stepped, carryOut, overlay, step, verdict}
 use Rattle.rules.specs.Reader.{readAll, readRecords}
 use Rattle.rules.specs.Ledger.{AllTyped, Call, Typed, recordsIn, stepped}
 use Rattle.rules.specs.Rounds.{History, Installed, Told, groupAfter, historyAfter, inForceAfter, installedAs, isEpochRecord, lastAfter, noHistory, observe, observed, subscriptionAfter, unlessEpoch}
-use Rattle.rules.specs.WorkedExample.{buffer, list}
 use Rattle.rules.specs.declared.Refusal.{Refusal}
 use Rattle.rules.specs.declared.Answer.{Answer}
 use Rattle.rules.specs.declared.Answer.the-variants.{Refused}

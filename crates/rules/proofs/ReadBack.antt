@@ -1,14 +1,14 @@
 -- What was written is read back: the reader inverts the encoder on every record that is `Proper`.
-use Prim.Native.Nat.{ℕ, zero, suc, _+_, _-_, _*_, _/_, _%_, _≤_, _<_}
+use Prim.Native.Nat.{ℕ, zero, suc, _+_, _-_, _/_, _%_, _≤_, _<_}
 use native.Mathlib.Nat.{suc-ne-zero, suc-inj}
 use native.Mathlib.Omega.{arith}
-use mathlib.Core.Path.{_≡_, refl, sym, ap, _∙_}
+use mathlib.Core.Path.{_≡_, refl, sym}
 use mathlib.Core.Bool.{Bool, true, false}
 use mathlib.Core.List.{List, [], _∷_, _++_, append-assoc}
-use mathlib.Core.Option.{Option, none, some}
+use mathlib.Core.Option.{Option, some}
 use lib.ListN.{length, take, drop, length-append}
 use lib.Seq.{take-append-seam}
-use lib.Dec.{eqb, ltb, leb}
+use lib.Dec.{ltb, leb}
 use borrow.Author.Tests.{lt-ltb, le-ltb, ltb-false, ne-eqb, leb-true, le-leb}
 use Rattle.rules.specs.Basics.{all, concatMap, empty, if_then_else_, indices, rising}
 use Rattle.rules.specs.Constants.{idLength, slotCount}
@@ -17,7 +17,6 @@ use Rattle.rules.specs.Refusals.{isSlotSet}
 use Rattle.rules.specs.Step.{overlay}
 use Rattle.rules.specs.Reader.{_>>=_, andMore, andThen, byte, joined, moreGroups, pure, readAll, readBytes, readCurrent, readDifferences, readKind, readMember, readNumber, readPresent, readRecord, readRecords, readSet, readTarget, readTopic, refuse}
 use Rattle.rules.specs.Ledger.{recordsIn}
-use Rattle.rules.specs.WorkedExample.{buffer}
 use Rattle.rules.proofs.Lists.{and-true}
 
 got : {A : Type 0} {a b : A} (rest : List ℕ) → a ≡ b → _≡_ {A = Option (A × List ℕ)} (some (a, rest)) (some (b, rest))

@@ -1,26 +1,24 @@
 -- What an accepted event stores is read back: its records are proper in every group reached from a fresh one.
-use Prim.Native.Nat.{ℕ, zero, suc, _+_, _≤_, _<_}
+use Prim.Native.Nat.{ℕ}
 use native.Mathlib.Omega.{arith}
-use mathlib.Core.Path.{_≡_, refl, sym, ap, _∙_, subst}
-use mathlib.Core.Bool.{Bool, true, false, not, _&&_, _||_, true≢false}
-use mathlib.Core.List.{List, [], _∷_, _++_, append-nil}
-use mathlib.Core.Option.{Option, none, some}
-use lib.ListN.{length, getD}
-use lib.Dec.{eqb}
+use mathlib.Core.Path.{_≡_, sym, ap, _∙_, subst}
+use mathlib.Core.Bool.{not, _||_, true≢false}
+use mathlib.Core.List.{List, [], _∷_, append-nil}
+use mathlib.Core.Option.{none, some}
+use lib.ListN.{length}
 use Rattle.rules.specs.Basics.{concatMap, default, indices, upTo}
 use Rattle.rules.specs.Constants.{idLength, maxMembers, slotCount}
 use Rattle.rules.specs.Group.{Group, SlotState, fresh, known, memberAt, nobody, placeOf, raised, setM, targeted}
-use Rattle.rules.specs.Records.{targetEpoch, targetIs, topicIs}
+use Rattle.rules.specs.Records.{targetIs, topicIs}
 use Rattle.rules.specs.Event.{Event, Request, heartbeat, install, sweep, topic}
 use Rattle.rules.specs.Refusals.{Kind, atEnd, firstOf, heartbeatTable, invalid, joins, kindOf, leaves, newTimeout, ordinary, table, topicChanges}
 use Rattle.rules.specs.Effects.{effect, epochAfter, heartbeatEffect, installEffect, installRecords, joinAt, joinEffect, joinPlace, leaveAt, leaveEffect, leaveRecords, ordinaryEffect, overduePlaces, removalRecords, retargeted, revokes, sweepEffect, sweepOf, sweepRecords, targetRecord, topicEffect, topicRecords, waits}
 use Rattle.rules.specs.Ledger.{Typed}
 use Rattle.rules.specs.Rounds.{History, historyAfter, noHistory}
 use Rattle.rules.specs.Theorems.{Reached, Readable}
-use Rattle.rules.specs.WorkedExample.{buffer, calls}
 use Rattle.rules.proofs.Lists.{not-is-false}
 use Rattle.rules.proofs.ReadBack.{AllProper, read-stored, slot-set}
-use Rattle.rules.proofs.SingleHolder.{AllFalse, after, idIn, join-proper, known-id, none-first, proper-append, proper-epoch, proper-only, proper-removal, proper-removals}
+use Rattle.rules.proofs.SingleHolder.{AllFalse, idIn, join-proper, known-id, none-first, proper-append, proper-epoch, proper-only, proper-removal, proper-removals}
 use Rattle.rules.proofs.Members.{length-retargeted}
 use Rattle.rules.proofs.Reachable.{RInv, course, epoch-bounds, fresh-rinv, member-known, ordinary-proper}
 

@@ -1,16 +1,14 @@
 -- A refusal changes nothing, and 1003 is given exactly where its own row applies and none before it does.
-use Prim.Native.Nat.{ℕ, zero, suc, _+_, _≤_, _<_}
-use native.Mathlib.Nat.{zero-add, add-zero, add-suc, suc-add}
+use Prim.Native.Nat.{ℕ, _+_, _<_}
 use native.Mathlib.Omega.{arith}
-use mathlib.Core.Path.{_≡_, refl, sym, ap, _∙_, subst}
+use mathlib.Core.Path.{_≡_, refl, sym, ap, _∙_}
 use mathlib.Core.Logic.{_≢_, _⊎_, inl, inr}
-use mathlib.Core.Bool.{Bool, true, false, not, _&&_, _||_, true≢false, false≢true}
-use mathlib.Core.List.{List, [], _∷_, _++_, map, foldl, List·Memᴰ, List·Memᴰ·not-nil, List·Memᴰ·cases-cons}
+use mathlib.Core.Bool.{Bool, true, false, not, _&&_, _||_, false≢true}
+use mathlib.Core.List.{List, [], _∷_, _++_}
 use mathlib.Core.Option.{Option, none, some}
-use lib.ListN.{length, getD, set, length-set}
-use lib.Seq.{getD-set-same, getD-set-other}
-use lib.Dec.{eqb, ltb, leb}
-use borrow.Author.Tests.{eqb-true, eq-eqb, lt-ltb, le-ltb, ltb-true, le-leb, leb-true}
+use lib.ListN.{length}
+use lib.Dec.{eqb, ltb}
+use borrow.Author.Tests.{eq-eqb, lt-ltb, ltb-true}
 use Rattle.rules.specs.Basics.{if_then_else_}
 use Rattle.rules.specs.Group.{Group}
 use Rattle.rules.specs.Records.{allBytes}
@@ -20,7 +18,6 @@ use Rattle.rules.specs.Refusals.{Kind, Row, _when_, firstOf, heartbeatTa
 use Rattle.rules.specs.Effects.{effect, heartbeatEffect, installEffect, joinAt, joinEffect, leaveAt, leaveEffect, ordinaryEffect, sweepEffect, sweepOf, topicEffect}
 use Rattle.rules.specs.Step.{carryOut, step, tooLittleRoom, verdict}
 use Rattle.rules.specs.Theorems.{RefusalChangesNothing, RoomAlwaysThen, RoomOnlyThen}
-use Rattle.rules.specs.WorkedExample.{buffer, list}
 use Rattle.rules.specs.declared.Refusal.{Refusal}
 use Rattle.rules.specs.declared.Refusal.the-variants.{Room}
 use Rattle.rules.specs.declared.Answer.{Answer}

@@ -1,27 +1,25 @@
 -- The three rounds.
-use Prim.Native.Nat.{ℕ, zero, suc, _+_, _-_, _≤_, _<_, max, suc-le-suc}
-use native.Mathlib.Nat.{zero-lt-suc, zero-add}
+use Prim.Native.Nat.{ℕ, _+_, _-_}
+use native.Mathlib.Nat.{zero-add}
 use native.Mathlib.Omega.{arith}
 use mathlib.Core.Path.{_≡_, refl, sym, ap, _∙_, subst}
 use mathlib.Core.Logic.{_≢_, _⊎_, inl, inr}
-use mathlib.Core.Bool.{Bool, true, false, not, _&&_, _||_, true≢false, false≢true}
-use mathlib.Core.List.{List, [], _∷_, _++_, map, List·Memᴰ}
+use mathlib.Core.Bool.{Bool, true, false, not, _&&_}
+use mathlib.Core.List.{List, [], _∷_, _++_, List·Memᴰ}
 use mathlib.Core.Option.{Option, none, some}
-use lib.ListN.{length, getD, set, take}
+use lib.ListN.{length, getD}
 use lib.Seq.{getD-set-same, getD-set-other}
-use lib.Dec.{eqb, ltb, leb}
-use borrow.Author.Tests.{eqb-true, eqb-false, eq-eqb, ne-eqb}
+use lib.Dec.{eqb}
+use borrow.Author.Tests.{eqb-true, eq-eqb, ne-eqb}
 use Rattle.rules.specs.Basics.{any, default, indices}
 use Rattle.rules.specs.Constants.{noPlace}
 use Rattle.rules.specs.Group.{Group, Member, SlotState, assigned, freeSlot, fresh, known, memberAt, placeOf, revoking, setA, setP}
-use Rattle.rules.specs.Records.{targetEpoch}
 use Rattle.rules.specs.Event.{Event, Request, heartbeat, install, sweep, topic}
 use Rattle.rules.specs.Refusals.{Row, _when_, firstOf, heartbeatTable, newSubscription, notHeldBy, ordinary, resubscribes, table}
 use Rattle.rules.specs.Effects.{advanced, changed, effect, epochAfter, heartbeatEffect, memberAfter, ordinaryEffect, revokes, slotsAfter, strays, waits}
 use Rattle.rules.specs.Step.{carryOut, step, verdict}
 use Rattle.rules.specs.Ledger.{AllTyped, Call, Typed, named, stepped}
 use Rattle.rules.specs.Rounds.{AllRegular, From, History, Installed, Regular, RegularCall, Round, Sends, Settled, ThreeRounds, Told, groupAfter, historyAfter, noHistory, observed}
-use Rattle.rules.specs.WorkedExample.{buffer, list}
 use Rattle.rules.specs.declared.Answer.the-variants.{Done}
 use Rattle.rules.proofs.Lists.{and-true, indices-sound}
 use Rattle.rules.proofs.SingleHolder.{AllFalse, eq-cases, holderIn, id-lt, idIn, ids-same, known-id, member-placed, none-not, unknown-id}

@@ -5,10 +5,9 @@ use mathlib.Core.Bool.{true, false}
 use mathlib.Core.List.{List, [], _∷_, _++_, map}
 use mathlib.Core.Option.{Option, none, some}
 use lib.IntN.{ℤ, pos, negsuc}
-use lib.ListN.{length, replicate}
+use lib.ListN.{replicate}
 use Rattle.rules.specs.Constants.{idLength, lastEpoch, maxMembers, noPlace, slotCount}
 use Rattle.rules.specs.Group.{Group, Member, SlotState, Topic, freeSlot, fresh}
-use Rattle.rules.specs.Records.{number, targetEpoch}
 use Rattle.rules.specs.Event.{Event, heartbeat, install, sweep, topic}
 use Rattle.rules.specs.Answers.{numberOf, said, slotReported}
 use Rattle.rules.specs.Running.{Seen, run}
