@@ -62,14 +62,14 @@ roomFree [] = true
 roomFree ((r when b) ∷ rows) = not (eqb (numberOf r) (numberOf Room)) && roomFree rows
 
 heartbeat-rows : (g : Group) (b : Request) (k : Kind) → roomFree (heartbeatTable g b k) ≡ true
-unfolding roomFree heartbeatTable numberOf
+unfolding roomFree heartbeatTable
 heartbeat-rows g b joins = refl
 heartbeat-rows g b leaves = refl
 heartbeat-rows g b invalid = refl
 heartbeat-rows g b (ordinary n) = refl
 
 table-rows : (g : Group) (e : Event) → roomFree (table g e) ≡ true
-unfolding roomFree table numberOf
+unfolding roomFree table
 table-rows g (heartbeat b) = heartbeat-rows g b (kindOf (b .epoch))
 table-rows g (sweep tick) = refl
 table-rows g (topic t id n) = refl

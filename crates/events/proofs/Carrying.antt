@@ -1,0 +1,62 @@
+-- What every event's code comes to at its end: a refusal changes nothing, and an effect that no row refuses is carried out if there is room.
+use Prim.Native.Nat.{ℕ, _≤_, _<_}
+use native.Mathlib.Omega.{arith}
+use mathlib.Core.Path.{_≡_, refl, ap, _∙_}
+use mathlib.Core.Bool.{true, false}
+use mathlib.Core.List.{List, []}
+use lib.ListN.{length}
+use lib.Dec.{ltb}
+use borrow.Author.Tests.{le-ltb, lt-ltb}
+use Rattle.rules.specs.Group.{Group}
+use Rattle.rules.specs.Records.{allBytes}
+use Rattle.rules.specs.Event.{Request, heartbeat}
+use Rattle.rules.specs.Refusals.{firstOf, kindOf, table}
+use Rattle.rules.specs.Effects.{Effect, effect}
+use Rattle.rules.specs.Step.{Stepped, step, verdict, carryOut, tooLittleRoom, overlay}
+use Rattle.rules.specs.declared.Refusal.{Refusal}
+use Rattle.rules.specs.declared.Refusal.the-variants.{Room}
+use Rattle.rules.specs.declared.Answer.the-variants.{Refused}
+use Rattle.numbers.specs.Buffer.{Wrote}
+use Rattle.group.specs.declared.Group as S
+use Rattle.group.specs.View.{view}
+use Rattle.events.specs.declared.Outcome.{Outcome}
+use Rattle.events.specs.Outcomes.{took, carried, stepAs}
+
+-- ---- refusals
+
+abbrev pub denied : Refusal → Group → List ℕ → List ℕ → Stepped
+denied why g b l = record { answer = Refused why; group = g; written = 0; buffer = b; list = l }
+
+pub took-refused : {r : Outcome} {g : S.Group} {why : Refusal} (b l : List ℕ) → r ≡ record { group = g; answer = Refused why; written = 0 } → took r b l ≡ denied why (view g) b l
+unfolding took
+took-refused b l e = ap (λ (r : Outcome). took r b l) e
+
+-- ---- heartbeats are taken as the kind of their epoch
+
+pub step-kind : (g : Group) (b : Request) (buffer list : List ℕ) → step g (heartbeat b) buffer list ≡ stepAs (kindOf (b .epoch)) g b buffer list
+unfolding step verdict table effect stepAs
+step-kind g b buffer list = refl
+
+-- ---- an effect that no row refuses: no room in the buffer, no room in the list, or carried out
+
+module _ (f : Effect) (b l : List ℕ) where
+  pub no-room-records : {s : S.Group} {r : Outcome} → length b < length (allBytes (f .records)) → r ≡ record { group = s; answer = Refused Room; written = 0 } → took r b l ≡ carried (view s) f b l
+  unfolding carried carryOut firstOf tooLittleRoom
+  no-room-records p q = took-refused b l q ∙ rw (lt-ltb _ _ p)
+
+  pub no-room-list : {s : S.Group} {r : Outcome} → length (allBytes (f .records)) ≤ length b → length l < length (f .told) → r ≡ record { group = s; answer = Refused Room; written = 0 } → took r b l ≡ carried (view s) f b l
+  unfolding carried carryOut firstOf tooLittleRoom
+  no-room-list p h q = took-refused b l q ∙ rw (le-ltb _ _ p, lt-ltb _ _ h)
+
+  pub carried-out : (g : Group) (out : S.Group) {w : ℕ} {b′ l′ : List ℕ} → length (allBytes (f .records)) ≤ length b → length (f .told) ≤ length l
+      → view out ≡ f .group → Wrote (allBytes (f .records)) b b′ w → l′ ≡ overlay (f .told) l
+      → took (record { group = out; answer = f .answer; written = w }) b′ l′ ≡ carried g f b l
+  unfolding carried carryOut firstOf tooLittleRoom took
+  carried-out g out p h v q t = rw (le-ltb _ _ p, le-ltb _ _ h, v, q .count, q .bytes, t)
+
+  -- with nothing for the list
+  pub carried-untold : (g : Group) (out : S.Group) {w : ℕ} {b′ : List ℕ} → f .told ≡ [] → length (allBytes (f .records)) ≤ length b
+      → view out ≡ f .group → Wrote (allBytes (f .records)) b b′ w
+      → took (record { group = out; answer = f .answer; written = w }) b′ l ≡ carried g f b l
+  unfolding carried carryOut firstOf tooLittleRoom took overlay
+  carried-untold g out t p v q = rw (t, le-ltb _ _ p, le-ltb (length l) 0 (omega arith), v, q .count, q .bytes)

@@ -1,0 +1,42 @@
+// What the events have in common: a heartbeat's request, an event's outcome, a refusal, and answers as plain numbers.
+ghost use mathlib.Core.Path.{_≡_};
+
+mod answers; // answers.rt: answers as plain numbers
+
+pub use answers::Said;
+pub use answers::number_of;
+pub use answers::what_is_said;
+use group::Group;
+use rules::Answer;
+use rules::Refusal;
+
+// What an event comes to: the group after it, the answer, and how many bytes of records were written to the buffer.
+#[repr(C)]
+pub struct Outcome {
+    pub group: Group,
+    pub answer: Answer,
+    pub written: usize,
+}
+
+// A heartbeat, but for its list of owned slots, which is lent beside it and counts only where `has_list`.
+#[repr(C)]
+pub struct Request {
+    pub id: [u8; 16],
+    pub epoch: i32,
+    pub tick: u32,
+    pub timeout: i32,
+    pub has_subscription: bool,
+    pub subscription: u16,
+    pub has_list: bool,
+}
+
+// A refusal: the group as it was, and nothing written.
+pub fn refused(g: Group, why: Refusal) -> Outcome
+    ensures { λ r. ⌜ r ≡ record { group = g; answer = Answer.Refused why; written = 0 } ⌝ }
+{
+    Outcome {
+        group: g,
+        answer: Answer::Refused(why),
+        written: 0,
+    }
+}

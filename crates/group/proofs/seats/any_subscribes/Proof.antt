@@ -1,0 +1,69 @@
+-- The search goes on while no seat passed (`Sought`), so the first that passes, or none, is what the whole array has. Assumes nothing.
+use Prim.Native.Nat.{_-_, _≤_}
+use native.Mathlib.Omega.{arith}
+use mathlib.Core.Path.{sym, _∙_}
+use lib.ListN.{length}
+use borrow.Author.Needs.{needs}
+use Rattle.rules.specs.Constants.{maxMembers}
+use Rattle.rules.specs.Group.{subscribes}
+use Rattle.group.specs.View.{viewSeat}
+use Rattle.group.proofs.Searching.{Sought, sought-begin, sought-next, found-any, none-any}
+use Rattle.group.proofs.Views.{no-seat}
+use Rattle.group.proofs.seats.any_subscribes.Statement.{statement}
+use Rattle.group.proofs.seats.any_subscribes.Tie as tie
+
+abbrev Inv-loop : tie.InvT-loop
+Inv-loop topic seats i₀ i = (i ≤ maxMembers) × Sought (subscribes topic) viewSeat seats i
+
+abbrev μ-loop : tie.MeasureT-loop
+μ-loop topic seats i₀ i = maxMembers - i
+
+loop-holds : tie.Need-loop-holds Inv-loop μ-loop
+loop-holds c = (omega arith, sought-begin _ _ _)
+
+mul-s : tie.Need-mul-s Inv-loop μ-loop
+mul-s c = search needs
+
+array-copy-out-s : tie.Need-array-copy-out-s Inv-loop μ-loop
+array-copy-out-s c = search needs
+
+member-subscribes-requires : tie.Need-member-subscribes-requires Inv-loop μ-loop
+member-subscribes-requires c κs = search needs
+
+returns : tie.Need-returns Inv-loop μ-loop
+returns c =
+    let l = c .before .before .before .before .loop in
+    sym (found-any _ _ (l .inv .1) no-seat (search needs) (sym (c .before .member-subscribes .ensures) ∙ c .if1 .taken))
+
+add-i : tie.Need-add-i Inv-loop μ-loop
+add-i c = search needs
+
+loop-less : tie.Need-loop-less Inv-loop μ-loop
+loop-less c = search needs
+
+loop-again : tie.Need-loop-again Inv-loop μ-loop
+loop-again c =
+    let l = c .before .before .before .before .loop in
+    (omega arith, sought-next _ _ (l .inv .1) no-seat (search needs) (sym (c .before .member-subscribes .ensures) ∙ c .if1 .left))
+
+returns-2 : tie.Need-returns-2 Inv-loop μ-loop
+returns-2 c =
+    let l = c .before .loop in
+    let e : length (c .before .before .args .t1) ≤ l .i = search needs in
+    sym (none-any _ _ (l .inv .1) e)
+
+pub any-subscribes-spec : {M : Type 1} → statement M
+any-subscribes-spec =
+    tie.close
+    (tie.spec
+    Inv-loop
+    μ-loop
+    loop-holds
+    mul-s
+    array-copy-out-s
+    member-subscribes-requires
+    returns
+    add-i
+    loop-less
+    loop-again
+    returns-2)

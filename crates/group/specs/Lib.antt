@@ -1,0 +1,5 @@
+pub mod Entries
+pub mod Kinds
+pub mod Members
+pub mod Searches
+pub mod View

@@ -1,0 +1,31 @@
+-- The group of the rules that a value of the crate's struct stands for.
+use mathlib.Core.List.{map}
+use mathlib.Core.Option.{Option, none, some}
+use lib.Dec.{eqb}
+use Rattle.rules.specs.Basics.{if_then_else_}
+use Rattle.rules.specs.Group as G
+use Rattle.tables.specs.View.{viewTables}
+use Rattle.group.specs.declared.Group.{Group}
+use Rattle.group.specs.declared.Seat.{Seat}
+use Rattle.group.specs.declared.Topic.{Topic}
+
+-- the member at a seat that is used
+abbrev pub seated : Seat → G.Member
+seated s = record { id = s .id; epoch = s .epoch; subscription = s .subscription; timeout = s .timeout; heard = s .heard; revokedAt = s .«revoked_at» }
+
+-- of a seat that is not used no field counts
+unfoldable pub viewSeat : Seat → Option G.Member
+viewSeat s = if s .used then some (seated s) else none
+
+unfoldable pub viewTopic : Topic → Option G.Topic
+viewTopic t = if eqb (t .count) 0 then none else some (record { id = t .id; count = t .count })
+
+unfoldable pub view : Group → G.Group
+view g = record {
+  epoch = g .epoch;
+  targetEpoch = g .«target_epoch»;
+  tick = g .tick;
+  topics = map viewTopic (g .topics);
+  members = map viewSeat (g .seats);
+  slots = viewTables (g .tables);
+}

@@ -1,0 +1,75 @@
+// The group with a part of it replaced. A place or a topic's number past the last replaces nothing.
+ghost use mathlib.Core.Path.{_≡_};
+ghost use mathlib.Core.Option.{none};
+ghost use Prim.Native.Nat.{_≤_};
+ghost use lib.ListN.{set};
+ghost use Rattle.rules.specs.Effects.{changed, withTopic, withTarget};
+ghost use Rattle.tables.specs.View.{viewTables};
+ghost use Rattle.group.specs.View.{view, viewSeat};
+use crate::Group;
+use crate::MEMBERS;
+use crate::Seat;
+use crate::Topic;
+use rules::Place;
+use tables::Tables;
+
+// The group at another group epoch and tick.
+pub fn stamped(g: Group, epoch: u32, tick: u32) -> Group
+    ensures { λ r. ⌜ view r ≡ changed (view g) epoch tick (view g .members) (view g .slots) ⌝ }
+{
+    let mut next = g;
+    next.epoch = epoch;
+    next.tick = tick;
+    next
+}
+
+// The group with another seat at a place, other tables, and another group epoch and tick.
+pub fn with_seat(g: Group, p: Place, seat: Seat, tables: Tables, epoch: u32, tick: u32) -> Group
+    ensures { λ r. ⌜ view r ≡ changed (view g) epoch tick (set (view g .members) (p .0) (viewSeat seat)) (viewTables tables) ⌝ }
+{
+    let mut next = g;
+    next.tables = tables;
+    next.epoch = epoch;
+    next.tick = tick;
+    let i = p.0 as usize;
+    if i < MEMBERS {
+        next.seats[i] = seat;
+        return next;
+    }
+    next
+}
+
+// The group with no member at a place and other tables.
+pub fn without_member(g: Group, p: Place, tables: Tables) -> Group
+    ensures { λ r. ⌜ view r ≡ changed (view g) (g .epoch) (g .tick) (set (view g .members) (p .0) none) (viewTables tables) ⌝ }
+{
+    let vacant = Seat::vacant();
+    with_seat(g, p, vacant, tables, g.epoch, g.tick)
+}
+
+// The group with another topic and group epoch.
+pub fn with_topic(g: Group, number: u32, id: [u8; 16], count: u8, epoch: u32) -> Group
+    ensures { λ r. ⌜ (1 ≤ count → view r ≡ withTopic (view g) number id count epoch) ⌝ }
+{
+    let mut next = g;
+    next.epoch = epoch;
+    let n = number as usize;
+    if n < 16 {
+        next.topics[n] = Topic {
+            id: id,
+            count: count,
+        };
+        return next;
+    }
+    next
+}
+
+// The group with another target, of its own epoch, in these tables.
+pub fn with_target(g: Group, tables: Tables) -> Group
+    ensures { λ r. ⌜ view r ≡ withTarget (view g) (viewTables tables) ⌝ }
+{
+    let mut next = g;
+    next.target_epoch = g.epoch;
+    next.tables = tables;
+    next
+}

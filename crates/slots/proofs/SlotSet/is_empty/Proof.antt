@@ -1,0 +1,19 @@
+-- The set has no slot where its lowest slot is past the end.
+use mathlib.Core.Path.{_≡_}
+use lib.ListN.{length}
+use borrow.Author.Needs.{needs}
+use Rattle.slots.proofs.Next.{none-next}
+use Rattle.slots.proofs.SlotSet.is_empty.Statement.{statement}
+use Rattle.slots.proofs.SlotSet.is_empty.Tie as tie
+
+lowest-requires : tie.Need-lowest-requires
+lowest-requires c κs = search needs
+
+returns : tie.Need-returns
+returns c =
+    let ws = c .before .args .self .words in
+    let n : length ws ≡ 16 = search needs in
+    none-next ws (c .lowest .result) n (c .lowest .ensures)
+
+pub is-empty-spec : {M : Type 1} → statement M
+is-empty-spec = tie.close (tie.spec lowest-requires returns)

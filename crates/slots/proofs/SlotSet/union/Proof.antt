@@ -1,0 +1,78 @@
+-- Each word of the result is the two words or-ed, whence the slots are those of either (`wordwise`).
+use mathlib.Core.Path.{_≡_, refl, sym, ap, _∙_}
+use mathlib.Core.Bool.{Bool, true, false, not, _&&_, _||_}
+use Prim.Native.Nat.{ℕ, _+_, _-_, _*_, _/_, _%_, _^_, _≤_, _<_}
+use native.Mathlib.Omega.{arith}
+use lib.ListN.{length, getD}
+use lib.Bits.{bitOr}
+use Rattle.slots.specs.Set.{bit}
+use Rattle.slots.proofs.Bits.{bit-or}
+use Rattle.slots.proofs.Each.{Each, each-none, each-more}
+use Rattle.slots.proofs.Words.{wordwise}
+use borrow.Author.Needs.{needs}
+use Rattle.slots.proofs.SlotSet.union.Statement.{statement}
+use Rattle.slots.proofs.SlotSet.union.Tie as tie
+
+abbrev Inv-loop : tie.InvT-loop
+Inv-loop other r₀ i₀ r i = (i ≤ 16) × Each (λ k x. bitOr x (getD (other .words) k 0)) (r₀ .words) (r .words) i
+
+abbrev μ-loop : tie.MeasureT-loop
+μ-loop other r₀ i₀ r i = 16 - i
+
+loop-holds : tie.Need-loop-holds Inv-loop μ-loop
+loop-holds c = (search needs, each-none _ _)
+
+mul-r : tie.Need-mul-r Inv-loop μ-loop
+mul-r c = search needs
+
+element-copy-out-r : tie.Need-element-copy-out-r Inv-loop μ-loop
+element-copy-out-r c = search needs
+
+mul-r-2 : tie.Need-mul-r-2 Inv-loop μ-loop
+mul-r-2 c = search needs
+
+element-copy-out-r-2 : tie.Need-element-copy-out-r-2 Inv-loop μ-loop
+element-copy-out-r-2 c = search needs
+
+mul-r-3 : tie.Need-mul-r-3 Inv-loop μ-loop
+mul-r-3 c = search needs
+
+element-write-r : tie.Need-element-write-r Inv-loop μ-loop
+element-write-r c = search needs
+
+add-i : tie.Need-add-i Inv-loop μ-loop
+add-i c = search needs
+
+loop-less : tie.Need-loop-less Inv-loop μ-loop
+loop-less c = search needs
+
+loop-again : tie.Need-loop-again Inv-loop μ-loop
+loop-again c = let l = c .before .before .before .loop in
+    let n : length (c .before .before .before .before .args .self .words) ≡ 16 = search needs in
+    (omega arith, each-more _ (l .inv .1) (omega (arith, l .inv .1 .len)) refl)
+
+returns : tie.Need-returns Inv-loop μ-loop
+returns c = let l = c .before .loop in
+    let a = c .before .before .args in
+    let na : length (a .self .words) ≡ 16 = search needs in
+    let nb : length (a .t2 .words) ≡ 16 = search needs in
+    wordwise _||_ refl (a .self .words) (a .t2 .words) (l .r .words) na nb (l .inv .1 .len ∙ na)
+    (λ k h j _. ap (λ (w : ℕ). bit w j) (l .inv .1 .done k (omega arith)) ∙ bit-or (getD (a .self .words) k 0) (getD (a .t2 .words) k 0) j)
+
+pub union-spec : {M : Type 1} → statement M
+union-spec =
+    tie.close
+    (tie.spec
+    Inv-loop
+    μ-loop
+    loop-holds
+    mul-r
+    element-copy-out-r
+    mul-r-2
+    element-copy-out-r-2
+    mul-r-3
+    element-write-r
+    add-i
+    loop-less
+    loop-again
+    returns)

@@ -1,0 +1,196 @@
+// Sets of slots, kept as words: slot s is bit s % 64 of word s / 64. What each function does is said slot by slot, by `has`, or of the rising list of
+// the slots, `slotsOf`.
+ghost use mathlib.Core.Path.{_≡_};
+ghost use mathlib.Core.Bool.{Bool, true, false, not, _&&_, _||_};
+ghost use Prim.Native.Nat.{ℕ, _+_, _≤_, _<_};
+ghost use lib.ListN.{length, getD};
+ghost use lib.Dec.{eqb};
+ghost use Rattle.rules.specs.Basics.{same};
+ghost use Rattle.rules.specs.Constants.{slotCount};
+ghost use Rattle.numbers.specs.Buffer.{Wrote};
+ghost use Rattle.slots.specs.Set.{has, slotsOf, listed, TellsEmpty, TellsSubset, NextFrom};
+use rules::Slot;
+
+// The number of slots.
+const SLOTS: u16 = 1024;
+
+pub struct SlotSet {
+    pub words: [u64; 16],
+}
+
+impl SlotSet {
+    // The set of no slot.
+    pub fn empty() -> SlotSet
+        ensures { λ r. ⌜ ((s : ℕ) → has (r .words) s ≡ false) ⌝ }
+    {
+        SlotSet { words: [0; 16] }
+    }
+
+    pub fn contains(self, slot: Slot) -> bool
+        requires { ⌜ slot .0 < slotCount ⌝ }
+        ensures { λ r. ⌜ r ≡ has (self .words) (slot .0) ⌝ }
+    {
+        let n = slot.0;
+        let i = (n / 64) as usize;
+        let b = n % 64;
+        let w = self.words[i];
+        (w >> b) % 2 == 1
+    }
+
+    // The set with `slot` added.
+    pub fn insert(self, slot: Slot) -> SlotSet
+        requires { ⌜ slot .0 < slotCount ⌝ }
+        ensures { λ r. ⌜ ((s : ℕ) → has (r .words) s ≡ (has (self .words) s || eqb s (slot .0))) ⌝ }
+    {
+        let n = slot.0;
+        let i = (n / 64) as usize;
+        let b = n % 64;
+        let mut r = self;
+        r.words[i] = r.words[i] | (1u64 << b);
+        r
+    }
+
+    // The set without `slot`.
+    pub fn remove(self, slot: Slot) -> SlotSet
+        requires { ⌜ slot .0 < slotCount ⌝ }
+        ensures { λ r. ⌜ ((s : ℕ) → has (r .words) s ≡ (has (self .words) s && not (eqb s (slot .0)))) ⌝ }
+    {
+        let n = slot.0;
+        let i = (n / 64) as usize;
+        let b = n % 64;
+        let mut r = self;
+        r.words[i] = r.words[i] & !(1u64 << b);
+        r
+    }
+
+    // The slots of either set.
+    pub fn union(self, other: SlotSet) -> SlotSet
+        ensures { λ r. ⌜ ((s : ℕ) → has (r .words) s ≡ (has (self .words) s || has (other .words) s)) ⌝ }
+    {
+        let mut r = self;
+        for i in 0..16 {
+            r.words[i] = r.words[i] | other.words[i];
+        }
+        r
+    }
+
+    // The slots that `other` has not.
+    pub fn difference(self, other: SlotSet) -> SlotSet
+        ensures { λ r. ⌜ ((s : ℕ) → has (r .words) s ≡ (has (self .words) s && not (has (other .words) s))) ⌝ }
+    {
+        let mut r = self;
+        for i in 0..16 {
+            r.words[i] = r.words[i] & !other.words[i];
+        }
+        r
+    }
+
+    // The lowest slot of the set that is not below `from`, or 1024.
+    pub fn next(self, from: u16) -> u16
+        requires { ⌜ from ≤ slotCount ⌝ }
+        ensures { λ r. ⌜ NextFrom (self .words) from r ⌝ }
+    {
+        let mut s = from;
+        while s < SLOTS {
+            let i = (s / 64) as usize;
+            let b = s % 64;
+            let w = self.words[i] >> b;
+            if w != 0 {
+                return s + u64::trailing_zeros(w) as u16;
+            }
+            s = (s / 64 + 1) * 64;
+        }
+        s
+    }
+
+    // The lowest slot, or 1024.
+    pub fn lowest(self) -> u16
+        ensures { λ r. ⌜ NextFrom (self .words) 0 r ⌝ }
+    {
+        self.next(0)
+    }
+
+    pub fn is_empty(self) -> bool
+        ensures { λ r. ⌜ TellsEmpty (self .words) r ⌝ }
+    {
+        self.lowest() == SLOTS
+    }
+
+    // Whether each slot of the set is in `other`.
+    pub fn is_subset(self, other: SlotSet) -> bool
+        ensures { λ r. ⌜ TellsSubset (self .words) (other .words) r ⌝ }
+    {
+        self.difference(other).is_empty()
+    }
+
+    // Whether both sets have the same slots.
+    pub fn same_as(self, other: SlotSet) -> bool
+        ensures { λ r. ⌜ r ≡ same (slotsOf (self .words)) (slotsOf (other .words)) ⌝ }
+    {
+        if self.is_subset(other) {
+            return other.is_subset(self);
+        }
+        false
+    }
+
+    // The number of slots, by a step for each.
+    pub fn count(self) -> u32
+        ensures { λ r. ⌜ r ≡ length (slotsOf (self .words)) ⌝ }
+    {
+        let mut n: u32 = 0;
+        let mut s = self.next(0);
+        while s < SLOTS {
+            n += 1;
+            s = self.next(s + 1);
+        }
+        n
+    }
+}
+
+// Writes the slots of the set, in rising order, at the start of `out`, and leaves the rest of it alone. Returns how many there are.
+pub fn list_slots(out: &mut [u16], a: SlotSet) -> usize
+    requires { ⌜ length (slotsOf (a .words)) ≤ length (now out) ⌝ }
+    ensures { λ r. ⌜ Wrote (slotsOf (a .words)) (now (out .entry)) (now (out .exit)) r ⌝ }
+{
+    let mut at: usize = 0;
+    let mut s = a.next(0);
+    while s < SLOTS {
+        out[at] = s;
+        at += 1;
+        s = a.next(s + 1);
+    }
+    at
+}
+
+// The set of the slots in a list; numbers of 1024 and more are passed over.
+pub fn of_list(list: &[u16]) -> SlotSet
+    ensures { λ r. ⌜ ((s : ℕ) → s < slotCount → has (r .words) s ≡ listed s (now (list .entry))) ⌝ }
+{
+    let mut r = SlotSet::empty();
+    let mut i: usize = 0;
+    while i < list.len() {
+        let x = list[i];
+        i += 1;
+        if x < SLOTS {
+            r = r.insert(Slot(x));
+        }
+    }
+    r
+}
+
+// The slots at which a table has a value.
+pub fn gather(table: &[u8; 1024], value: u8) -> SlotSet
+    requires { ⌜ length (now table) ≡ slotCount ⌝ }
+    ensures { λ r. ⌜ ((s : ℕ) → s < slotCount → has (r .words) s ≡ eqb (getD (now (table .entry)) s 0) value) ⌝ }
+{
+    let mut r = SlotSet::empty();
+    let mut s: u16 = 0;
+    while s < SLOTS {
+        let here = s;
+        s += 1;
+        if table[here as usize] == value {
+            r = r.insert(Slot(here));
+        }
+    }
+    r
+}

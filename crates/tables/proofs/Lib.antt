@@ -1,0 +1,9 @@
+pub mod Lists
+pub mod Viewing
+pub mod Replacing
+pub mod Nearness
+pub mod Filling
+pub mod Listing
+pub mod Slotwise
+pub mod Stepping
+pub mod Moving

@@ -1,0 +1,52 @@
+-- Tests and changes of the elements of a list: whether some element passes a test, and the list with each element changed.
+use Prim.Native.Nat.{ℕ, zero, suc, _<_}
+use native.Mathlib.Nat.{le-of-suc-le-suc, not-suc-le-zero}
+use native.Mathlib.Omega.{arith}
+use mathlib.Core.Path.{_≡_, refl, ap, ap₂, _∙_}
+use mathlib.Core.Bool.{Bool, true, false, _||_}
+use mathlib.Core.List.{List, [], _∷_, map}
+use lib.ListN.{length, getD, drop}
+use Rattle.rules.specs.Basics.{any}
+
+pub or-true : (b : Bool) → (b || true) ≡ true
+or-true true = refl
+or-true false = refl
+
+module _ {A : Type 0} (d : A) where
+  pub any-off : (f : A → Bool) (l : List A) → ((i : ℕ) → i < length l → f (getD l i d) ≡ false) → any f l ≡ false
+  any-off f [] h = refl
+  any-off f (x ∷ l) h = ap₂ _||_ (h 0 (omega arith)) (any-off f l (λ i q. h (suc i) (omega arith)))
+
+  pub any-on : (f : A → Bool) (l : List A) (i : ℕ) → i < length l → f (getD l i d) ≡ true → any f l ≡ true
+  any-on f [] i h e = absurd (not-suc-le-zero h)
+  any-on f (x ∷ l) zero h e = ap (λ (b : Bool). b || any f l) e
+  any-on f (x ∷ l) (suc i) h e = ap (λ (b : Bool). f x || b) (any-on f l i (le-of-suc-le-suc h) e) ∙ or-true (f x)
+
+  pub map-at : (k : A → A) (l : List A) (i : ℕ) → i < length l → getD (map k l) i d ≡ k (getD l i d)
+  map-at k [] i h = absurd (not-suc-le-zero h)
+  map-at k (x ∷ l) zero h = refl
+  map-at k (x ∷ l) (suc i) h = map-at k l i (le-of-suc-le-suc h)
+
+  pub map-same : (k : A → A) (l : List A) → ((i : ℕ) → i < length l → k (getD l i d) ≡ getD l i d) → map k l ≡ l
+  map-same k [] h = refl
+  map-same k (x ∷ l) h = ap₂ (λ (y : A) (z : List A). y ∷ z) (h 0 (omega arith)) (map-same k l (λ i q. h (suc i) (omega arith)))
+
+module _ {A : Type 0} where
+  pub any-ext : (f g : A → Bool) → ((x : A) → f x ≡ g x) → (l : List A) → any f l ≡ any g l
+  any-ext f g h [] = refl
+  any-ext f g h (x ∷ l) = ap₂ _||_ (h x) (any-ext f g h l)
+
+  pub any-map : (f : A → Bool) (k : A → A) → ((x : A) → f (k x) ≡ f x) → (l : List A) → any f (map k l) ≡ any f l
+  any-map f k h [] = refl
+  any-map f k h (x ∷ l) = ap₂ _||_ (h x) (any-map f k h l)
+
+-- a loop over a list that looks for an element
+module _ {A : Type 0} (f : A → Bool) where
+  pub any-at : (l : List A) (i : ℕ) (d : A) → i < length l → any f (drop i l) ≡ (f (getD l i d) || any f (drop (suc i) l))
+  any-at [] i d p = absurd (not-suc-le-zero p)
+  any-at (x ∷ l) zero d p = refl
+  any-at (x ∷ l) (suc i) d p = any-at l i d (le-of-suc-le-suc p)
+
+pub map-two : {A : Type 0} (f g : A → A) (l : List A) → map f (map g l) ≡ map (λ x. f (g x)) l
+map-two f g [] = refl
+map-two f g (x ∷ l) = ap (λ r. f (g x) ∷ r) (map-two f g l)

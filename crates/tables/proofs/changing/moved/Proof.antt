@@ -1,0 +1,16 @@
+-- By the flag.
+use borrow.Author.Needs.{needs}
+use Rattle.tables.proofs.changing.moved.Statement.{statement}
+use Rattle.tables.proofs.changing.moved.Tie as tie
+
+change-tables-requires : tie.Need-change-tables-requires
+change-tables-requires c κs = search needs
+
+returns : tie.Need-returns
+returns c = rw (c .before .if1 .taken) (c .change-tables .ensures)
+
+returns-2 : tie.Need-returns-2
+returns-2 c = rw (c .if1 .left)
+
+pub moved-spec : {M : Type 1} → statement M
+moved-spec = tie.close (tie.spec change-tables-requires returns returns-2)

@@ -1,0 +1,200 @@
+-- The four sets are filled below s, and those from one near slot to the next are stepped over.
+use Rattle.rules.specs.Constants.{slotCount}
+use native.Mathlib.Omega.{arith}
+use Prim.Native.Nat.{ℕ, _+_, _-_, _≤_, _<_}
+use mathlib.Core.Path.{_≡_, refl, _∙_}
+use mathlib.Core.Bool.{true, false}
+use lib.ListN.{getD, length, length-set}
+use Rattle.tables.proofs.Filling.{Four, four-none, four-more, none-yet, filled}
+use Rattle.rules.specs.Group.{assigned, revoking, targeted}
+use Rattle.tables.specs.Places.{claimable}
+use borrow.Author.Needs.{needs}
+use Rattle.tables.proofs.gathering.gather_lists.Statement.{statement}
+use Rattle.tables.proofs.gathering.gather_lists.Tie as tie
+
+abbrev Inv-loop : tie.InvT-loop
+Inv-loop target holder waiting p assigned₀ revoking₀ targets₀ claimable₀ s₀ assigned revoking targets claimable s =
+    (s ≤ slotCount) × (length assigned ≡ 16) × (length revoking ≡ 16) × (length targets ≡ 16) ×
+    (length claimable ≡ 16) × Four p target holder waiting assigned revoking targets claimable s
+
+abbrev μ-loop : tie.MeasureT-loop
+μ-loop target holder waiting p assigned₀ revoking₀ targets₀ claimable₀ s₀ assigned revoking targets claimable s = slotCount - s
+
+next-near-requires : tie.Need-next-near-requires Inv-loop μ-loop
+next-near-requires c κs = search needs
+
+loop-holds : tie.Need-loop-holds Inv-loop μ-loop
+loop-holds c =
+    let a = c .before .args in (
+      c .next-near .ensures .1,
+      refl,
+      refl,
+      refl,
+      refl,
+      four-none (a .p) (a .target .now) (a .holder .now) (a .waiting .now) _
+          (c .next-near .result) refl none-yet (c .next-near .ensures .2),
+    )
+
+element-copy-out-h : tie.Need-element-copy-out-h Inv-loop μ-loop
+element-copy-out-h c = search needs
+
+element-copy-out-w : tie.Need-element-copy-out-w Inv-loop μ-loop
+element-copy-out-w c = search needs
+
+element-copy-out-t : tie.Need-element-copy-out-t Inv-loop μ-loop
+element-copy-out-t c = search needs
+
+mul-mark : tie.Need-mul-mark Inv-loop μ-loop
+mul-mark c = search needs
+
+array-read-mark : tie.Need-array-read-mark Inv-loop μ-loop
+array-read-mark c = search needs
+
+both-requires : tie.Need-both-requires Inv-loop μ-loop
+both-requires c κs = search needs
+
+mark-requires : tie.Need-mark-requires Inv-loop μ-loop
+mark-requires c κs = search needs
+
+mul-assigned : tie.Need-mul-assigned Inv-loop μ-loop
+mul-assigned c = search needs
+
+array-write-assigned : tie.Need-array-write-assigned Inv-loop μ-loop
+array-write-assigned c = search needs
+
+mul-mark-2 : tie.Need-mul-mark-2 Inv-loop μ-loop
+mul-mark-2 c = search needs
+
+array-read-mark-2 : tie.Need-array-read-mark-2 Inv-loop μ-loop
+array-read-mark-2 c = search needs
+
+both-requires-2 : tie.Need-both-requires-2 Inv-loop μ-loop
+both-requires-2 c κs = search needs
+
+mark-requires-2 : tie.Need-mark-requires-2 Inv-loop μ-loop
+mark-requires-2 c κs = search needs
+
+mul-revoking : tie.Need-mul-revoking Inv-loop μ-loop
+mul-revoking c = search needs
+
+array-write-revoking : tie.Need-array-write-revoking Inv-loop μ-loop
+array-write-revoking c = search needs
+
+mul-mark-3 : tie.Need-mul-mark-3 Inv-loop μ-loop
+mul-mark-3 c = search needs
+
+array-read-mark-3 : tie.Need-array-read-mark-3 Inv-loop μ-loop
+array-read-mark-3 c = search needs
+
+mark-requires-3 : tie.Need-mark-requires-3 Inv-loop μ-loop
+mark-requires-3 c κs = search needs
+
+mul-targets : tie.Need-mul-targets Inv-loop μ-loop
+mul-targets c = search needs
+
+array-write-targets : tie.Need-array-write-targets Inv-loop μ-loop
+array-write-targets c = search needs
+
+mul-mark-4 : tie.Need-mul-mark-4 Inv-loop μ-loop
+mul-mark-4 c = search needs
+
+array-read-mark-4 : tie.Need-array-read-mark-4 Inv-loop μ-loop
+array-read-mark-4 c = search needs
+
+both-requires-3 : tie.Need-both-requires-3 Inv-loop μ-loop
+both-requires-3 c κs = search needs
+
+mark-requires-4 : tie.Need-mark-requires-4 Inv-loop μ-loop
+mark-requires-4 c κs = search needs
+
+mul-claimable : tie.Need-mul-claimable Inv-loop μ-loop
+mul-claimable c = search needs
+
+array-write-claimable : tie.Need-array-write-claimable Inv-loop μ-loop
+array-write-claimable c = search needs
+
+add-next-near : tie.Need-add-next-near Inv-loop μ-loop
+add-next-near c = search needs
+
+next-near-requires-2 : tie.Need-next-near-requires-2 Inv-loop μ-loop
+next-near-requires-2 c κs = search needs
+
+loop-less : tie.Need-loop-less Inv-loop μ-loop
+loop-less c = let n = c .next-near2 .ensures .0 in omega (arith, n)
+
+loop-again : tie.Need-loop-again Inv-loop μ-loop
+loop-again c =
+    let l = c .before .before .before .before .before .before .before .before .before .before .before .before .loop in
+    let a = c .before .before .before .before .before .before .before .before .before .before .before .before .before .before .args in (
+      c .next-near2 .ensures .1,
+      simp length-set (l .inv .1),
+      simp length-set (l .inv .2),
+      simp length-set (l .inv .3),
+      simp length-set (l .inv .4),
+      four-more (a .p) (a .target .now) (a .holder .now) (a .waiting .now) (c .before .before .before .before .before .before .mark .result)
+          (c .before .before .before .before .mark2 .result) (c .before .before .before .mark3 .result) (c .before .mark4 .result)
+          (c .next-near2 .result) (l .inv .5) (omega arith)
+          (c .before .before .before .before .before .before .before .both .ensures)
+          (c .before .before .before .before .before .before .mark .ensures)
+          (c .before .before .before .before .before .both2 .ensures) (c .before .before .before .before .mark2 .ensures)
+          refl (c .before .before .before .mark3 .ensures)
+          (c .before .before .both3 .ensures) (c .before .mark4 .ensures)
+          (c .next-near2 .ensures .0) (c .next-near2 .ensures .2),
+    )
+
+returns : tie.Need-returns Inv-loop μ-loop
+returns c =
+    let l = c .before .loop in
+    let pre = c .before .before .before .pre in
+    let a = c .before .before .before .args in
+    let end : l .s ≡ slotCount = omega arith in
+    let e = rw end at (l .inv .5) in
+    let ts = a .target .now in
+    let hs = a .holder .now in
+    let ws = a .waiting .now in
+    record {
+      assigned-are = filled (assigned (a .p)) ts hs ws (pre .0) (pre .1) (pre .2) (e .a-so);
+      revoking-are = filled (revoking (a .p)) ts hs ws (pre .0) (pre .1) (pre .2) (e .q-so);
+      target-are = filled (targeted (a .p)) ts hs ws (pre .0) (pre .1) (pre .2) (e .m-so);
+      claimable-are = filled (claimable (a .p)) ts hs ws (pre .0) (pre .1) (pre .2) (e .c-so);
+    }
+
+pub gather-lists-spec : {M : Type 1} → statement M
+gather-lists-spec =
+    tie.close
+    (tie.spec
+    Inv-loop
+    μ-loop
+    next-near-requires
+    loop-holds
+    element-copy-out-h
+    element-copy-out-w
+    element-copy-out-t
+    mul-mark
+    array-read-mark
+    both-requires
+    mark-requires
+    mul-assigned
+    array-write-assigned
+    mul-mark-2
+    array-read-mark-2
+    both-requires-2
+    mark-requires-2
+    mul-revoking
+    array-write-revoking
+    mul-mark-3
+    array-read-mark-3
+    mark-requires-3
+    mul-targets
+    array-write-targets
+    mul-mark-4
+    array-read-mark-4
+    both-requires-3
+    mark-requires-4
+    mul-claimable
+    array-write-claimable
+    add-next-near
+    next-near-requires-2
+    loop-less
+    loop-again
+    returns)

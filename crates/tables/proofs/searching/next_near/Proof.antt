@@ -1,0 +1,74 @@
+-- None of the slots passed is near p, by eights and then one at a time.
+use Rattle.rules.specs.Constants.{slotCount}
+use native.Mathlib.Omega.{arith}
+use Prim.Native.Nat.{ℕ, _+_, _-_, _≤_, _<_}
+use mathlib.Core.Path.{_≡_}
+use mathlib.Core.Bool.{true, false}
+use lib.ListN.{getD, length}
+use lib.Dec.{eqb}
+use Rattle.tables.specs.Places.{near, NoneNear}
+use Rattle.tables.proofs.Nearness.{none-more}
+use Rattle.slots.proofs.Next.{none-join}
+use borrow.Author.Needs.{needs}
+use Rattle.tables.proofs.searching.next_near.Statement.{statement}
+use Rattle.tables.proofs.searching.next_near.Tie as tie
+
+abbrev Inv-loop : tie.InvT-loop
+Inv-loop target holder p from i₀ i = (from ≤ i) × (i ≤ slotCount) × NoneNear p target holder from i
+
+abbrev μ-loop : tie.MeasureT-loop
+μ-loop target holder p from i₀ i = slotCount - i
+
+skip-far-requires : tie.Need-skip-far-requires Inv-loop μ-loop
+skip-far-requires c κs = search needs
+
+loop-holds : tie.Need-loop-holds Inv-loop μ-loop
+loop-holds c = c .skip-far .ensures
+
+element-copy-out-near-mark : tie.Need-element-copy-out-near-mark Inv-loop μ-loop
+element-copy-out-near-mark c = search needs
+
+element-copy-out-near-mark-2 : tie.Need-element-copy-out-near-mark-2 Inv-loop μ-loop
+element-copy-out-near-mark-2 c = search needs
+
+near-mark-requires : tie.Need-near-mark-requires Inv-loop μ-loop
+near-mark-requires c κs = search needs
+
+returns : tie.Need-returns Inv-loop μ-loop
+returns c = c .before .before .before .before .before .loop .inv
+
+add-i : tie.Need-add-i Inv-loop μ-loop
+add-i c = search needs
+
+loop-less : tie.Need-loop-less Inv-loop μ-loop
+loop-less c = omega arith
+
+loop-again : tie.Need-loop-again Inv-loop μ-loop
+loop-again c =
+    let l = c .before .before .before .before .before .loop in
+    let a = c .before .before .before .before .before .before .before .args in (
+      omega arith,
+      omega arith,
+      none-more (λ j. near (a .p) (getD (a .target .now) j 0) (getD (a .holder .now) j 0)) (a .from) (l .i) (l .inv .2)
+          (c .before .near-mark .ensures (c .if1 .left)),
+    )
+
+returns-2 : tie.Need-returns-2 Inv-loop μ-loop
+returns-2 c = c .before .loop .inv
+
+pub next-near-spec : {M : Type 1} → statement M
+next-near-spec =
+    tie.close
+    (tie.spec
+    Inv-loop
+    μ-loop
+    skip-far-requires
+    loop-holds
+    element-copy-out-near-mark
+    element-copy-out-near-mark-2
+    near-mark-requires
+    returns
+    add-i
+    loop-less
+    loop-again
+    returns-2)

@@ -1,0 +1,119 @@
+// Steps 2 and 3 of an ordinary heartbeat, on the sets of a place.
+ghost use mathlib.Core.Path.{_≡_};
+ghost use mathlib.Core.Bool.{true, false, not, _&&_, _||_};
+ghost use mathlib.Core.List.{List};
+ghost use Prim.Native.Nat.{ℕ, _+_, _<_};
+ghost use lib.ListN.{length};
+ghost use Rattle.rules.specs.Basics.{any};
+ghost use Rattle.rules.specs.Constants.{slotCount, noPlace};
+ghost use Rattle.rules.specs.Group.{SlotState};
+ghost use Rattle.slots.specs.Set.{has};
+ghost use Rattle.tables.specs.Gathers.{Gathers};
+ghost use Rattle.tables.specs.Advances.{ownedOf, Advances};
+use crate::gathering::PlaceSets;
+use crate::gathering::both;
+use rules::Slot;
+use slots::SlotSet;
+
+// What steps 2 and 3 come to: A and P after them, whether the place waits for slots of P to be given back, whether P was freed, whether slots moved
+// to P, and whether A or P changed.
+pub struct Advance {
+    pub assigned: SlotSet,
+    pub revoking: SlotSet,
+    pub waits: bool,
+    pub frees: bool,
+    pub revokes: bool,
+    pub changed: bool,
+}
+
+fn either(a: bool, b: bool) -> bool
+    ensures { λ r. ⌜ r ≡ (a || b) ⌝ }
+{
+    if a {
+        return true;
+    }
+    b
+}
+
+// Whether slot s, which may be any number, is in the set.
+fn holds(set: SlotSet, s: u16) -> bool
+    ensures { λ r. ⌜ r ≡ has (set .words) s ⌝ }
+{
+    if s < 1024 {
+        return set.contains(Slot(s));
+    }
+    false
+}
+
+// Whether some slot of the list is in the set.
+fn meets(set: SlotSet, list: &[u16]) -> bool
+    ensures { λ r. ⌜ r ≡ any (has (set .words)) (now (list .entry)) ⌝ }
+{
+    let mut i: usize = 0;
+    while i < list.len() {
+        if holds(set, list[i]) {
+            return true;
+        }
+        i += 1;
+    }
+    false
+}
+
+// Whether P is not empty, and a list is given that has no slot of P.
+fn frees_all(revoking: SlotSet, none: bool, given: bool, owned: &[u16]) -> bool
+    ensures { λ r. ⌜ r ≡ (given && (not none && not (any (has (revoking .words)) (now (owned .entry))))) ⌝ }
+{
+    if given {
+        if none {
+            return false;
+        }
+        return !meets(revoking, owned);
+    }
+    false
+}
+
+impl PlaceSets {
+    // Steps 2 and 3 for a place below 255 whose sets these are. The list is looked at only if `given`.
+    pub fn advance(self, given: bool, owned: &[u16]) -> Advance
+        ensures { λ r. ⌜ ((p : ℕ) (vs : List SlotState) → p < noPlace → length vs ≡ slotCount → Gathers p vs self
+            → Advances p vs (ownedOf given (now (owned .entry))) r) ⌝ }
+    {
+        let assigned = self.assigned;
+        let revoking = self.revoking;
+        let target = self.target;
+        let claimable = self.claimable;
+        let none = revoking.is_empty();
+        let frees = frees_all(revoking, none, given, owned);
+        if both(!none, !frees) {
+            return Advance {
+                assigned: assigned,
+                revoking: revoking,
+                waits: true,
+                frees: false,
+                revokes: false,
+                changed: false,
+            };
+        }
+        let strays = assigned.difference(target);
+        if strays.is_empty() {
+            let regained = revoking.difference(revoking.difference(target));
+            let claimed = claimable.union(regained);
+            return Advance {
+                assigned: assigned.union(claimed),
+                revoking: SlotSet::empty(),
+                waits: false,
+                frees: frees,
+                revokes: false,
+                changed: either(frees, !claimed.is_empty()),
+            };
+        }
+        Advance {
+            assigned: assigned.difference(strays),
+            revoking: strays,
+            waits: false,
+            frees: frees,
+            revokes: true,
+            changed: true,
+        }
+    }
+}

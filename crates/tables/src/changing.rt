@@ -1,0 +1,218 @@
+// What becomes of the tables. Only the slots that are near the place change, so that one loop from one such slot to the next serves every change.
+ghost use mathlib.Core.Path.{_≡_};
+ghost use mathlib.Core.List.{map};
+ghost use Prim.Native.Nat.{ℕ, _+_, _<_};
+ghost use lib.Dec.{eqb};
+ghost use Rattle.rules.specs.Basics.{if_then_else_};
+ghost use Rattle.rules.specs.Constants.{noPlace};
+ghost use Rattle.rules.specs.Effects.{vacated, freed, revoked, claimed, advanced, retargeted};
+ghost use Rattle.tables.specs.View.{viewTables, viewLists};
+ghost use Rattle.tables.specs.Advances.{ownedOf, Advances};
+ghost use Rattle.tables.specs.Changes.{viewEntry, movedBy, changeBy};
+use crate::Tables;
+use crate::advancing::Advance;
+use rules::Place;
+
+// The entries of the tables for one slot.
+pub struct Entry {
+    pub target: u8,
+    pub holder: u8,
+    pub waiting: bool,
+}
+
+// What becomes of the slots near a place: the place is vacated; or its slots move as steps 2 and 3 say, P freed first or not, then strays revoked or
+// free slots of the target claimed.
+pub enum Change {
+    Vacate,
+    Move(bool, bool),
+}
+
+fn without(entry: u8, p: u8) -> u8
+    ensures { λ r. ⌜ r ≡ (if eqb entry p then noPlace else entry) ⌝ }
+{
+    if entry == p {
+        return 255;
+    }
+    entry
+}
+
+fn vacate_one(e: Entry, p: u8) -> Entry
+    ensures { λ r. ⌜ viewEntry r ≡ vacated p (viewEntry e) ⌝ }
+{
+    let target = without(e.target, p);
+    if e.holder == p {
+        return Entry {
+            target: target,
+            holder: 255,
+            waiting: false,
+        };
+    }
+    Entry {
+        target: target,
+        holder: e.holder,
+        waiting: e.waiting,
+    }
+}
+
+fn free_one(e: Entry, frees: bool, p: u8) -> Entry
+    ensures { λ r. ⌜ viewEntry r ≡ (if frees then freed p (viewEntry e) else viewEntry e) ⌝ }
+{
+    if frees {
+        if e.holder == p {
+            if e.waiting {
+                return Entry {
+                    target: e.target,
+                    holder: 255,
+                    waiting: false,
+                };
+            }
+        }
+    }
+    e
+}
+
+fn revoke_one(e: Entry, p: u8) -> Entry
+    ensures { λ r. ⌜ viewEntry r ≡ revoked p (viewEntry e) ⌝ }
+{
+    if e.holder == p {
+        if !e.waiting {
+            if e.target != p {
+                return Entry {
+                    target: e.target,
+                    holder: e.holder,
+                    waiting: true,
+                };
+            }
+        }
+    }
+    e
+}
+
+fn claim_one(e: Entry, p: u8) -> Entry
+    ensures { λ r. ⌜ viewEntry r ≡ claimed p (viewEntry e) ⌝ }
+{
+    if e.target == p {
+        if e.holder == 255 {
+            return Entry {
+                target: e.target,
+                holder: p,
+                waiting: false,
+            };
+        }
+    }
+    e
+}
+
+fn move_one(e: Entry, frees: bool, revokes: bool, p: u8) -> Entry
+    ensures { λ r. ⌜ viewEntry r ≡ movedBy frees revokes p (viewEntry e) ⌝ }
+{
+    let x = free_one(e, frees, p);
+    if revokes {
+        return revoke_one(x, p);
+    }
+    claim_one(x, p)
+}
+
+fn change_one(what: Change, e: Entry, p: u8) -> Entry
+    ensures { λ r. ⌜ viewEntry r ≡ changeBy what p (viewEntry e) ⌝ }
+{
+    match what {
+        Change::Vacate => vacate_one(e, p),
+        Change::Move(frees, revokes) => move_one(e, frees, revokes, p),
+    }
+}
+
+fn change_lists(
+    target: [u8; 1024],
+    holder: [u8; 1024],
+    waiting: [bool; 1024],
+    what: Change,
+    p: u8,
+) -> Tables
+    ensures { λ r. ⌜ viewTables r ≡ map (changeBy what p) (viewLists target holder waiting) ⌝ }
+{
+    let mut t = target;
+    let mut h = holder;
+    let mut w = waiting;
+    let mut i = crate::searching::next_near(&t, &h, p, 0);
+    while i < 1024 {
+        let e = Entry {
+            target: t[i],
+            holder: h[i],
+            waiting: w[i],
+        };
+        let r = change_one(what, e, p);
+        t[i] = r.target;
+        h[i] = r.holder;
+        w[i] = r.waiting;
+        i = crate::searching::next_near(&t, &h, p, i + 1);
+    }
+    Tables {
+        target: t,
+        holder: h,
+        waiting: w,
+    }
+}
+
+// The tables with each slot changed; the slots that are not near p are not looked at one by one.
+fn change_tables(tables: Tables, what: Change, p: u8) -> Tables
+    ensures { λ r. ⌜ viewTables r ≡ map (changeBy what p) (viewTables tables) ⌝ }
+{
+    let target = tables.target;
+    let holder = tables.holder;
+    let waiting = tables.waiting;
+    change_lists(target, holder, waiting, what, p)
+}
+
+// The tables after steps 2 and 3, written only if A or P changed.
+fn moved(tables: Tables, step: Advance, p: u8) -> Tables
+    ensures { λ r. ⌜ viewTables r ≡ (if step .changed then map (movedBy (step .frees) (step .revokes) p) (viewTables tables) else viewTables tables) ⌝ }
+{
+    if step.changed {
+        return change_tables(tables, Change::Move(step.frees, step.revokes), p);
+    }
+    tables
+}
+
+// The tables after steps 2 and 3, and what the steps came to.
+pub struct Advanced {
+    pub tables: Tables,
+    pub step: Advance,
+}
+
+impl Tables {
+    // Steps 2 and 3 of an ordinary heartbeat of the member at place p. The list is looked at only if `given`.
+    pub fn advance(self, p: Place, given: bool, owned: &[u16]) -> Advanced
+        requires { ⌜ p .0 < noPlace ⌝ }
+        ensures { λ r. ⌜ (viewTables (r .tables) ≡ advanced (p .0) (viewTables self) (ownedOf given (now (owned .entry))))
+            × Advances (p .0) (viewTables self) (ownedOf given (now (owned .entry))) (r .step) ⌝ }
+    {
+        let sets = self.gather(p);
+        let step = sets.advance(given, owned);
+        let after = moved(self, step, p.0);
+        Advanced {
+            tables: after,
+            step: step,
+        }
+    }
+
+    // The place p holds nothing and is nobody's target; all other entries stay.
+    pub fn vacate(self, p: Place) -> Tables
+        ensures { λ r. ⌜ viewTables r ≡ map (vacated (p .0)) (viewTables self) ⌝ }
+    {
+        change_tables(self, Change::Vacate, p.0)
+    }
+
+    // Another target; who holds what stays.
+    pub fn retarget(self, target: [u8; 1024]) -> Tables
+        ensures { λ r. ⌜ viewTables r ≡ retargeted (viewTables self) target ⌝ }
+    {
+        let holder = self.holder;
+        let waiting = self.waiting;
+        Tables {
+            target: target,
+            holder: holder,
+            waiting: waiting,
+        }
+    }
+}

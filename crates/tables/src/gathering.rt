@@ -1,0 +1,84 @@
+// What one pass over the tables tells of a place, as sets of slots.
+ghost use mathlib.Core.Path.{_≡_};
+ghost use mathlib.Core.Bool.{true, false, not, _&&_, _||_};
+ghost use Prim.Native.Nat.{ℕ, _+_, _<_};
+ghost use lib.ListN.{length};
+ghost use lib.Dec.{eqb};
+ghost use Rattle.rules.specs.Constants.{slotCount};
+ghost use Rattle.slots.specs.Set.{bit};
+ghost use Rattle.tables.specs.View.{viewTables, viewLists};
+ghost use Rattle.tables.specs.Gathers.{Gathers};
+use crate::Tables;
+use rules::Place;
+use slots::SlotSet;
+
+// A, P and M of a place, and the slots of M that nobody holds.
+pub struct PlaceSets {
+    pub assigned: SlotSet,
+    pub revoking: SlotSet,
+    pub target: SlotSet,
+    pub claimable: SlotSet,
+}
+
+// The word with bit b put in where `on`.
+fn mark(word: u64, b: u64, on: bool) -> u64
+    requires { ⌜ b < 64 ⌝ }
+    ensures { λ r. ⌜ ((i : ℕ) → bit r i ≡ (bit word i || (eqb i b && on))) ⌝ }
+{
+    if on {
+        return word | (1u64 << b);
+    }
+    word
+}
+
+pub fn both(a: bool, b: bool) -> bool
+    ensures { λ r. ⌜ r ≡ (a && b) ⌝ }
+{
+    if a {
+        return b;
+    }
+    false
+}
+
+pub fn gather_lists<'a>(
+    target: &'a [u8; 1024],
+    holder: &'a [u8; 1024],
+    waiting: &'a [bool; 1024],
+    p: u8,
+) -> PlaceSets
+    requires { ⌜ (length (now target) ≡ slotCount) × (length (now holder) ≡ slotCount) × (length (now waiting) ≡ slotCount) ⌝ }
+    ensures { λ r. ⌜ Gathers p (viewLists (now (target .entry)) (now (holder .entry)) (now (waiting .entry))) r ⌝ }
+{
+    let mut assigned: [u64; 16] = [0; 16];
+    let mut revoking: [u64; 16] = [0; 16];
+    let mut targets: [u64; 16] = [0; 16];
+    let mut claimable: [u64; 16] = [0; 16];
+    let mut s = crate::searching::next_near(target, holder, p, 0);
+    while s < 1024 {
+        let k = s / 64;
+        let b = (s % 64) as u64;
+        let h = holder[s];
+        let w = waiting[s];
+        let t = target[s];
+        assigned[k] = mark(assigned[k], b, both(h == p, !w));
+        revoking[k] = mark(revoking[k], b, both(h == p, w));
+        targets[k] = mark(targets[k], b, t == p);
+        claimable[k] = mark(claimable[k], b, both(t == p, h == 255));
+        s = crate::searching::next_near(target, holder, p, s + 1);
+    }
+    PlaceSets {
+        assigned: SlotSet { words: assigned },
+        revoking: SlotSet { words: revoking },
+        target: SlotSet { words: targets },
+        claimable: SlotSet { words: claimable },
+    }
+}
+
+impl Tables {
+    // The sets of the place p, by one pass over the tables.
+    pub fn gather(self, p: Place) -> PlaceSets
+        ensures { λ r. ⌜ Gathers (p .0) (viewTables self) r ⌝ }
+    {
+        gather_lists(&self.target, &self.holder, &self.waiting, p.0)
+    }
+}

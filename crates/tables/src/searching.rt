@@ -1,0 +1,67 @@
+// The search for the slots that concern a place: those that it holds and those of its target. It steps over eight slots at a time by a test without
+// branches, so that a pass over the tables costs little where few slots are the place's.
+ghost use mathlib.Core.Path.{_≡_};
+ghost use mathlib.Core.Bool.{true, false};
+ghost use Prim.Native.Nat.{ℕ, _+_, _≤_, _<_};
+ghost use lib.ListN.{length, getD};
+ghost use Rattle.rules.specs.Constants.{slotCount};
+ghost use Rattle.tables.specs.Places.{near, NoneNear};
+
+// 0 only where the slot is not near p.
+fn near_mark(target: u8, holder: u8, p: u8) -> u8
+    ensures { λ r. ⌜ (r ≡ 0 → near p target holder ≡ false) ⌝ }
+{
+    if holder == p {
+        return 1;
+    }
+    if target == p {
+        return 1;
+    }
+    0
+}
+
+// Whether it is sure that none of the eight slots from `from` on is near p.
+fn none_near<'a>(target: &'a [u8; 1024], holder: &'a [u8; 1024], p: u8, from: usize) -> bool
+    requires { ⌜ (length (now target) ≡ slotCount) × (length (now holder) ≡ slotCount) × (from + 8 ≤ slotCount) ⌝ }
+    ensures { λ r. ⌜ (r ≡ true → NoneNear p (now (target .entry)) (now (holder .entry)) from (from + 8)) ⌝ }
+{
+    let mut marks: u8 = 0;
+    let mut i: usize = 0;
+    while i < 8 {
+        let k = from + i;
+        marks = marks | near_mark(target[k], holder[k], p);
+        i += 1;
+    }
+    marks == 0
+}
+
+// The slot that is reached by stepping over eights of which none is near p.
+fn skip_far<'a>(target: &'a [u8; 1024], holder: &'a [u8; 1024], p: u8, from: usize) -> usize
+    requires { ⌜ (length (now target) ≡ slotCount) × (length (now holder) ≡ slotCount) × (from ≤ slotCount) ⌝ }
+    ensures { λ r. ⌜ (from ≤ r) × (r ≤ slotCount) × NoneNear p (now (target .entry)) (now (holder .entry)) from r ⌝ }
+{
+    let mut i = from;
+    while i <= 1016 {
+        if none_near(target, holder, p, i) {
+            i += 8;
+        } else {
+            return i;
+        }
+    }
+    i
+}
+
+// A slot before which, from `from` on, none is near p; at most 1024.
+pub fn next_near<'a>(target: &'a [u8; 1024], holder: &'a [u8; 1024], p: u8, from: usize) -> usize
+    requires { ⌜ (length (now target) ≡ slotCount) × (length (now holder) ≡ slotCount) × (from ≤ slotCount) ⌝ }
+    ensures { λ r. ⌜ (from ≤ r) × (r ≤ slotCount) × NoneNear p (now (target .entry)) (now (holder .entry)) from r ⌝ }
+{
+    let mut i = skip_far(target, holder, p, from);
+    while i < 1024 {
+        if near_mark(target[i], holder[i], p) != 0 {
+            return i;
+        }
+        i += 1;
+    }
+    i
+}

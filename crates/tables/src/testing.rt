@@ -1,0 +1,73 @@
+// Tests of a place on the tables.
+ghost use mathlib.Core.Path.{_≡_};
+ghost use mathlib.Core.Bool.{true, false, not};
+ghost use Prim.Native.Nat.{ℕ, _+_, _<_};
+ghost use lib.Dec.{eqb};
+ghost use lib.ListN.{length, getD};
+ghost use Rattle.rules.specs.Basics.{any};
+ghost use Rattle.rules.specs.Constants.{slotCount, noPlace};
+ghost use Rattle.rules.specs.Group.{revoking, targeted, setM};
+ghost use Rattle.slots.specs.Set.{slotsOf};
+ghost use Rattle.tables.specs.View.{viewTables};
+ghost use Rattle.tables.specs.Places.{holderNot};
+use crate::Tables;
+use rules::Place;
+use slots::SlotSet;
+
+// The holder of slot s, which may be any number; 255 for a number that is no slot.
+fn holder_at(holder: &[u8; 1024], s: u16) -> u8
+    requires { ⌜ length (now holder) ≡ slotCount ⌝ }
+    ensures { λ r. ⌜ r ≡ getD (now (holder .entry)) s noPlace ⌝ }
+{
+    let i = s as usize;
+    if i < 1024 {
+        return holder[i];
+    }
+    255
+}
+
+fn any_unheld<'a>(holder: &'a [u8; 1024], list: &'a [u16], p: u8) -> bool
+    requires { ⌜ length (now holder) ≡ slotCount ⌝ }
+    ensures { λ r. ⌜ r ≡ any (λ s. not (eqb (getD (now (holder .entry)) s noPlace) p)) (now (list .entry)) ⌝ }
+{
+    let mut i: usize = 0;
+    while i < list.len() {
+        if holder_at(holder, list[i]) != p {
+            return true;
+        }
+        i += 1;
+    }
+    false
+}
+
+impl Tables {
+    // Whether some slot of the list is not held by p; numbers that are no slots are held by nobody.
+    pub fn lists_unheld(self, p: Place, list: &[u16]) -> bool
+        ensures { λ r. ⌜ r ≡ any (holderNot (viewTables self) (p .0)) (now (list .entry)) ⌝ }
+    {
+        any_unheld(&self.holder, list, p.0)
+    }
+
+    // Whether p is the target of some slot.
+    pub fn has_target(self, p: Place) -> bool
+        ensures { λ r. ⌜ r ≡ any (targeted (p .0)) (viewTables self) ⌝ }
+    {
+        let sets = self.gather(p);
+        !sets.target.is_empty()
+    }
+
+    // Whether p is to give some slot back.
+    pub fn is_revoking(self, p: Place) -> bool
+        ensures { λ r. ⌜ r ≡ any (revoking (p .0)) (viewTables self) ⌝ }
+    {
+        let sets = self.gather(p);
+        !sets.revoking.is_empty()
+    }
+
+    // The slots whose target is p.
+    pub fn target_set(self, p: Place) -> SlotSet
+        ensures { λ r. ⌜ slotsOf (r .words) ≡ setM (p .0) (viewTables self) ⌝ }
+    {
+        slots::gather(&self.target, p.0)
+    }
+}
