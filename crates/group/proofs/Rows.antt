@@ -3,7 +3,7 @@ use Prim.Native.Nat.{ℕ, suc, _≤_, _<_}
 use native.Mathlib.Omega.{arith}
 use native.Mathlib.Decide.{decLt}
 use mathlib.Core.Path.{_≡_, refl}
-use mathlib.Core.Bool.{Bool, true, false, not, _&&_, _||_}
+use mathlib.Core.Bool.{Bool, true, false, not, _&&_}
 use mathlib.Core.List.{List}
 use lib.Dec.{ltb, leb}
 use borrow.Author.Tests.{ltb-false, leb-false, eqb-false, lt-ltb, le-ltb, le-leb, lt-leb}
@@ -11,10 +11,7 @@ use Rattle.rules.specs.Basics.{if_then_else_}
 use Rattle.rules.specs.Constants.{topicCount, maxPartitions, lastEpoch}
 use Rattle.rules.specs.Group.{Group, raised}
 use Rattle.rules.specs.Refusals.{topicBad}
-
-or-false : (a b : Bool) → (a || b) ≡ false → (a ≡ false) × (b ≡ false)
-or-false true b h = absurd (let z : _≡_ {A = ℕ} 0 1 = cc in omega arith)
-or-false false b h = (refl, h)
+use Rattle.rules.proofs.Lists.{or-false}
 
 -- 1007: the number is one of a topic, and the count is one that a topic may have
 pub topic-good : (g : Group) (t : ℕ) (id : List ℕ) (n : ℕ) → topicBad g t id n ≡ false → (t < topicCount) × (1 ≤ n) × (n ≤ maxPartitions)
