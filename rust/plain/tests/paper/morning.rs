@@ -1,0 +1,94 @@
+//! "A morning with two workers": P1 to P12, one sequence, byte for byte.
+
+use super::desk::*;
+use crate::coordinator::{Answer, Refusal};
+
+struct Row {
+    name: &'static str,
+    answer: Answer,
+    slots: &'static [u16],
+    bytes: &'static str,
+    epochs: (i32, i32),
+}
+
+fn rows() -> Vec<Row> {
+    let row = |name, answer, slots, bytes, epochs| Row {
+        name,
+        answer,
+        slots,
+        bytes,
+        epochs,
+    };
+    let already = refused(Refusal::Already);
+    let done = Answer::Done;
+    #[rustfmt::skip]
+    let rows = vec![
+        row("P1", done, &[], "04 00 11* 03", (0, 0)),
+        row("P2", assigned(1, 0), &[], "05 00 01 AA* AC 02 01 03 01 08 00 01 00 00", (1, 0)),
+        row("P3", done, &[], "07 00 03 00 01 01 06 01", (1, 1)),
+        row("P4", assigned(1, 3), &[0, 1, 2], "08 00 01 03 00 01 01 00", (1, 1)),
+        row("P5", assigned(2, 0), &[], "05 01 01 BB* AC 02 01 03 02 08 01 02 00 00", (2, 1)),
+        row("P6", done, &[], "07 00 02 00 01 07 01 01 02 06 02", (2, 2)),
+        row("P7", assigned(2, 0), &[], "", (2, 2)),
+        row("P8", assigned(1, 2), &[0, 1], "08 00 01 02 00 01 01 02", (2, 2)),
+        row("P9", assigned(1, 2), &[0, 1], "", (2, 2)),
+        row("P10", assigned(2, 2), &[0, 1], "08 00 02 02 00 01 00", (2, 2)),
+        row("P11", assigned(2, 1), &[2], "08 01 02 01 02 00", (2, 2)),
+        row("P12", already, &[], "", (2, 2)),
+    ];
+    rows
+}
+
+fn play(desk: &mut Desk, name: &str) -> Given {
+    match name {
+        "P1" => desk.topic(0, [0x11; 16], 3),
+        "P2" => desk.heartbeat(join(AA, 1_000)),
+        "P3" => desk.install(1, &entries(&[(0, 0), (1, 0), (2, 0)])),
+        "P4" => desk.heartbeat(ordinary(AA, 1, 1_000, None)),
+        "P5" => desk.heartbeat(join(BB, 2_000)),
+        "P6" => desk.install(2, &entries(&[(0, 0), (1, 0), (2, 1)])),
+        "P7" => desk.heartbeat(ordinary(BB, 2, 2_000, Some(&[]))),
+        "P8" => desk.heartbeat(ordinary(AA, 1, 2_000, Some(&[0, 1, 2]))),
+        "P9" => desk.heartbeat(ordinary(AA, 1, 2_000, None)),
+        "P10" => desk.heartbeat(ordinary(AA, 1, 2_000, Some(&[0, 1]))),
+        "P11" => desk.heartbeat(ordinary(BB, 2, 2_000, Some(&[]))),
+        _ => desk.install(2, &entries(&[(0, 0), (1, 0), (2, 1)])),
+    }
+}
+
+fn check(desk: &mut Desk, row: &Row) {
+    let given = play(desk, row.name);
+    assert_eq!(given.answer, row.answer, "{}", row.name);
+    assert_eq!(given.slots, row.slots, "{}", row.name);
+    assert_eq!(given.bytes, hex(row.bytes), "{}", row.name);
+    let epochs = (desk.group.epoch(), desk.group.target_epoch());
+    assert_eq!(epochs, row.epochs, "{}", row.name);
+}
+
+#[test]
+fn p1_to_p12() {
+    let mut desk = Desk::new(1_000);
+    for row in rows() {
+        check(&mut desk, &row);
+    }
+    assert_eq!(desk.group.last_tick(), 2_000);
+}
+
+/// Each step with a buffer and a list of exactly the length it needs, and refused before that with
+/// either one short.
+#[test]
+fn p1_to_p12_in_exact_room() {
+    let mut desk = Desk::new(1_000);
+    for row in rows() {
+        let (bytes, slots) = (hex(row.bytes).len(), row.slots.len());
+        if let Some(short) = bytes.checked_sub(1) {
+            let given = play(desk.lend(short, ALL_SLOTS), row.name);
+            assert_eq!(given.answer, refused(Refusal::Room), "{}", row.name);
+        }
+        if let Some(short) = slots.checked_sub(1) {
+            let given = play(desk.lend(ROOMY, short), row.name);
+            assert_eq!(given.answer, refused(Refusal::Room), "{}", row.name);
+        }
+        check(desk.lend(bytes, slots), &row);
+    }
+}

@@ -1,0 +1,35 @@
+//! Two coordinators side by side on seeded random events. After every event, refused ones too,
+//! their answers, the whole lent buffer, the whole lent list and the whole group, by its parts, are
+//! compared. Besides, each answer is held against 01's table, the group against the one that is
+//! read from the stored records, and 01's ledger, fed nothing of the group, watches that no slot is
+//! with two members. From random points of a run three rounds of heartbeats must bring every member
+//! to its target.
+//!
+//! Where the two coordinators are named: `sides`. How a coordinator is plugged in: `coordinator`.
+#![forbid(unsafe_code)]
+
+pub mod coordinator;
+pub mod data;
+pub mod explore;
+pub mod force;
+pub mod generate;
+mod labels;
+pub mod ledger;
+mod lent;
+mod mend;
+pub mod random;
+pub mod reader;
+pub mod reasons;
+pub mod report;
+pub mod rounds;
+pub mod shrink;
+pub mod sides;
+pub mod sights;
+pub mod slots;
+pub mod snapshot;
+pub mod stored;
+pub mod tally;
+mod text;
+pub mod trial;
+
+pub use coordinator::Coordinator;

@@ -1,0 +1,175 @@
+//! Mending a run from which events were cut. Cutting a join shifts every epoch after it; so an
+//! event that named its member's epoch, the group's epoch, a member's place or the exact room
+//! before is changed to do so again. A run that begins near the end of the epochs may begin nearer.
+
+use std::ops::Range;
+
+use crate::coordinator::Coordinator;
+use crate::data::{Beat, Event, Id, Member, Run, Start, Turn, NO_PLACE, PLACES, ROOMY, SLOTS};
+use crate::reasons::need;
+
+/// What an event stood in relation to when it was made.
+struct Relation {
+    /// To its member's epoch, or an install to the group's.
+    epoch: Option<i64>,
+    /// Who was at each place.
+    names: Vec<Option<Id>>,
+    /// Whether its member held all that it listed.
+    listed_held: bool,
+    /// To the exact room.
+    room: Option<(i64, i64)>,
+    /// To the last tick.
+    ahead: u32,
+}
+
+/// The rest of a run, mended, from perhaps another start; and how much lower G is at its end.
+pub fn mended_without<R: Coordinator>(run: &Run, piece: Range<usize>, start: Start) -> (Run, i32) {
+    let mut then = R::start(run.start);
+    let mut now = R::start(start);
+    let mut turns = Vec::new();
+    for (at, turn) in run.turns.iter().enumerate() {
+        if !piece.contains(&at) {
+            let mended = mend(turn, &relation(turn, &then), &now);
+            serve(&mut now, &mended);
+            turns.push(mended);
+        }
+        serve(&mut then, turn);
+    }
+    let rounds = run.rounds;
+    let rest = Run {
+        start,
+        turns,
+        rounds,
+    };
+    (rest, then.epoch().saturating_sub(now.epoch()))
+}
+
+/// A start that makes up for what G lost; None where there is no such.
+pub fn begun_later(start: Start, lost: i32) -> Option<Start> {
+    match start {
+        Start::AtEpochs {
+            tick,
+            epoch,
+            target_epoch,
+        } if lost > 0 => Some(Start::AtEpochs {
+            tick,
+            epoch: epoch.checked_add(lost)?,
+            target_epoch,
+        }),
+        _ => None,
+    }
+}
+
+fn serve<C: Coordinator>(group: &mut C, turn: &Turn) {
+    let (mut records, mut list) = (vec![0; turn.buffer], vec![0; turn.list]);
+    group.serve(&turn.event, &mut records, &mut list);
+}
+
+fn relation<C: Coordinator>(turn: &Turn, then: &C) -> Relation {
+    let exact = need(&turn.event, then);
+    let mut relation = Relation {
+        epoch: None,
+        names: Vec::new(),
+        listed_held: false,
+        ahead: tick(&turn.event).map_or(0, |tick| tick.wrapping_sub(then.last_tick())),
+        room: exact.map(|(bytes, slots)| {
+            (
+                turn.buffer as i64 - bytes as i64,
+                turn.list as i64 - slots as i64,
+            )
+        }),
+    };
+    match &turn.event {
+        Event::Heartbeat(beat) if beat.epoch > 0 => {
+            if let Some(member) = member(then, &beat.id) {
+                let mut list = beat.owned.iter().flatten();
+                relation.epoch = Some(i64::from(beat.epoch) - i64::from(member.epoch));
+                relation.listed_held = list.all(|&slot| member.holds(slot));
+            }
+        }
+        Event::Install { epoch, .. } => {
+            relation.epoch = Some(i64::from(*epoch) - i64::from(then.epoch()));
+            relation.names = names(then);
+        }
+        _ => {}
+    }
+    relation
+}
+
+fn tick(event: &Event) -> Option<u32> {
+    match event {
+        Event::Heartbeat(beat) => Some(beat.tick),
+        Event::Sweep { tick } => Some(*tick),
+        _ => None,
+    }
+}
+
+fn mend<C: Coordinator>(turn: &Turn, relation: &Relation, now: &C) -> Turn {
+    let mut mended = turn.clone();
+    mend_tick(&mut mended.event, relation, now);
+    match &mut mended.event {
+        Event::Heartbeat(beat) => mend_beat(beat, relation, now),
+        Event::Install { epoch, entries } => {
+            let offset = relation.epoch.unwrap_or(0);
+            *epoch = (i64::from(now.epoch()) + offset) as i32;
+            mend_entries(entries, &relation.names, &names(now));
+        }
+        _ => {}
+    }
+    if let (Some((bytes_over, slots_over)), Some((bytes, slots))) =
+        (relation.room, need(&mended.event, now))
+    {
+        // Where there was all the room, there is again.
+        if mended.buffer < ROOMY {
+            mended.buffer = (bytes as i64 + bytes_over).clamp(0, ROOMY as i64) as usize;
+        }
+        if mended.list < SLOTS {
+            mended.list = (slots as i64 + slots_over).clamp(0, SLOTS as i64) as usize;
+        }
+    }
+    mended
+}
+
+/// Only a tick that has come to lie too far ahead is changed, for elapsed times should stay.
+fn mend_tick<C: Coordinator>(event: &mut Event, relation: &Relation, now: &C) {
+    let (Event::Heartbeat(Beat { tick, .. }) | Event::Sweep { tick }) = event else {
+        return;
+    };
+    let is_too_far = |ahead: u32| ahead >= 1 << 31;
+    if is_too_far(tick.wrapping_sub(now.last_tick())) && !is_too_far(relation.ahead) {
+        *tick = now.last_tick().wrapping_add(relation.ahead);
+    }
+}
+
+fn mend_beat<C: Coordinator>(beat: &mut Beat, relation: &Relation, now: &C) {
+    let (Some(offset), Some(member)) = (relation.epoch, member(now, &beat.id)) else {
+        return;
+    };
+    beat.epoch = (i64::from(member.epoch) + offset) as i32;
+    if let (true, Some(owned)) = (relation.listed_held, &mut beat.owned) {
+        owned.retain(|&slot| member.holds(slot));
+    }
+}
+
+/// Who is at each place.
+fn names<C: Coordinator>(group: &C) -> Vec<Option<Id>> {
+    let places = 0..PLACES;
+    places
+        .map(|place| group.member_at(place).map(|member| member.id))
+        .collect()
+}
+
+/// Each slot goes to the member who was at its place then, wherever it is now.
+fn mend_entries(entries: &mut [u8], then: &[Option<Id>], now: &[Option<Id>]) {
+    for entry in entries {
+        if let Some(name @ Some(_)) = then.get(usize::from(*entry)) {
+            let place = now.iter().position(|other| other == name);
+            *entry = place.map_or(NO_PLACE, |place| place as u8);
+        }
+    }
+}
+
+fn member<C: Coordinator>(group: &C, id: &Id) -> Option<Member> {
+    let mut members = (0..PLACES).filter_map(|place| group.member_at(place));
+    members.find(|member| member.id == *id)
+}

@@ -1,0 +1,130 @@
+//! Turns that events can take, told from the group before and after them.
+
+use crate::data::{Event, Turn};
+use crate::labels::labels;
+use crate::reader::Record;
+use crate::trial::Step;
+
+labels! {
+    /// Turns of events that a trial must not go without.
+    pub enum Sight {
+        Gained = "slots entered A",
+        Moved = "slots moved to P",
+        Freed = "P freed by a list",
+        FreedAndBack = "a freed slot back in A at once",
+        FreedAndMoved = "P freed and set anew at once",
+        KeptByPart = "P kept: the list has a part of it",
+        KeptByNoList = "P kept: no list",
+        StepOneAlone = "P kept, subscription or timeout stored",
+        RejoinWithTarget = "a rejoin that emptied a target",
+        LargeSet = "a set of 128 slots or more stored",
+        SweptSeveral = "several members swept at once",
+        SweptByTimeout = "swept for P alone",
+        SessionJustShort = "44,999 ms unheard, stays",
+        SessionJustOver = "45,000 ms unheard, goes",
+        RevocationJustShort = "P one ms short of the timeout, stays",
+        RevocationJustOver = "P set for just the timeout, goes",
+        RanOver = "the last tick ran over",
+        LargestStep = "a tick 2^31 - 1 ahead",
+        FullGroup = "the 32nd member joined",
+        LastRaise = "G reached its largest value",
+        RemovalAtEnd = "a leave or sweep at G's largest value",
+        InstallAtEnd = "an install at G's largest value",
+        ExactBuffer = "a buffer of just the records",
+        ExactList = "a list of just the slots",
+    }
+}
+
+pub fn is_seen(sight: Sight, turn: &Turn, step: &Step) -> bool {
+    use Sight::*;
+    let (before, after) = (step.before, step.after);
+    match sight {
+        Gained | Moved | Freed | FreedAndBack | FreedAndMoved | KeptByPart | KeptByNoList
+        | StepOneAlone => is_seen_of_sender(sight, turn, step),
+        SweptSeveral | SweptByTimeout | SessionJustShort | SessionJustOver
+        | RevocationJustShort | RevocationJustOver => is_seen_in_sweep(sight, turn, step),
+        RejoinWithTarget => {
+            is_join(turn) && matches!(step.records[..], [Record::Target { .. }, ..])
+        }
+        LargeSet => step.records.iter().any(is_large),
+        RanOver => after.last_tick < before.last_tick,
+        LargestStep => after.last_tick.wrapping_sub(before.last_tick) == (1 << 31) - 1,
+        FullGroup => before.members.len() == 31 && after.members.len() == 32,
+        LastRaise => before.epoch < i32::MAX && after.epoch == i32::MAX,
+        RemovalAtEnd => before.epoch == i32::MAX && after.members.len() < before.members.len(),
+        InstallAtEnd => matches!(turn.event, Event::Install { .. }) && before.epoch == i32::MAX,
+        ExactBuffer => turn.buffer > 0 && step.reply.written == turn.buffer,
+        ExactList => turn.list > 0 && step.slots.len() == turn.list,
+    }
+}
+
+fn is_join(turn: &Turn) -> bool {
+    matches!(&turn.event, Event::Heartbeat(beat) if beat.epoch == 0)
+}
+
+fn is_large(record: &Record) -> bool {
+    match record {
+        Record::Target { slots, .. } => slots.len() >= 128,
+        Record::Assignment { assigned, .. } => assigned.len() >= 128,
+        _ => false,
+    }
+}
+
+/// What an ordinary heartbeat did to its sender.
+fn is_seen_of_sender(sight: Sight, turn: &Turn, step: &Step) -> bool {
+    let Event::Heartbeat(beat) = &turn.event else {
+        return false;
+    };
+    let members = (step.before.member(&beat.id), step.after.member(&beat.id));
+    let (Some(before), Some(after)) = members else {
+        return false;
+    };
+    if beat.epoch == 0 {
+        return false;
+    }
+    let waited = !before.revoking.is_empty();
+    let kept = waited && before.revoking == after.revoking;
+    let freed = waited && !kept;
+    match sight {
+        Sight::Gained => after.assigned.len() > before.assigned.len(),
+        Sight::Moved => !waited && !after.revoking.is_empty(),
+        Sight::Freed => freed,
+        Sight::FreedAndBack => {
+            let mut was_waiting = before.revoking.iter();
+            freed && was_waiting.any(|slot| after.assigned.contains(slot))
+        }
+        Sight::FreedAndMoved => freed && !after.revoking.is_empty(),
+        Sight::KeptByNoList => kept && beat.owned.is_none(),
+        Sight::KeptByPart => {
+            let listed = |slot: &&u16| beat.owned.iter().flatten().any(|owned| owned == *slot);
+            let count = before.revoking.iter().filter(listed).count();
+            kept && count > 0 && count < before.revoking.len()
+        }
+        _ => kept && step.reply.written > 0,
+    }
+}
+
+fn is_seen_in_sweep(sight: Sight, turn: &Turn, step: &Step) -> bool {
+    let Event::Sweep { tick } = turn.event else {
+        return false;
+    };
+    let (before, after) = (step.before, step.after);
+    if sight == Sight::SweptSeveral {
+        return before.members.len() > after.members.len() + 1;
+    }
+    before.members.iter().any(|(place, member)| {
+        let silent = tick.wrapping_sub(member.heard);
+        let waiting = tick.wrapping_sub(member.revoked_at);
+        let has_p = !member.revoking.is_empty();
+        let stays = after.member_at(*place).is_some();
+        match sight {
+            Sight::SweptByTimeout => !stays && silent < 45_000,
+            Sight::SessionJustShort => stays && silent == 44_999,
+            Sight::SessionJustOver => !stays && silent == 45_000 && !has_p,
+            Sight::RevocationJustShort => {
+                stays && has_p && waiting.wrapping_add(1) == member.timeout
+            }
+            _ => !stays && has_p && waiting == member.timeout && silent < 45_000,
+        }
+    })
+}

@@ -1,0 +1,205 @@
+//! One event after another through both coordinators, with every check after each.
+
+use std::fmt;
+use std::mem;
+
+use crate::coordinator::Coordinator;
+use crate::data::{Answer, Reply, Start, Turn};
+use crate::force::Force;
+use crate::ledger::Ledger;
+use crate::lent::Lent;
+use crate::reader::{self, Record};
+use crate::reasons::{self, Reason};
+use crate::snapshot::Snapshot;
+use crate::stored::Stored;
+
+/// Which check an event failed, and how.
+#[derive(Clone, PartialEq, Eq, Debug)]
+pub struct Fault {
+    pub check: Check,
+    pub what: String,
+}
+
+#[derive(Clone, Copy, PartialEq, Eq, Debug)]
+pub enum Check {
+    /// The two answers, or the numbers of bytes written.
+    Answer,
+    /// The lent buffers or lists after the event.
+    Lent,
+    /// The two groups by their parts.
+    Group,
+    /// A refusal that changed something, a slot held twice, a made-up number swept.
+    Change,
+    /// 01's table, read a third time.
+    Table,
+    /// Stored bytes that are no records, or from which another group is read.
+    Records,
+    /// 01's ledger.
+    Ledger,
+    /// The three rounds.
+    Rounds,
+}
+
+impl Fault {
+    pub fn new(check: Check, what: impl Into<String>) -> Fault {
+        Fault {
+            check,
+            what: what.into(),
+        }
+    }
+}
+
+impl fmt::Display for Fault {
+    fn fmt(&self, f: &mut fmt::Formatter) -> fmt::Result {
+        write!(f, "{:?}: {}", self.check, self.what)
+    }
+}
+
+#[derive(Clone)]
+pub struct Trial<S, R> {
+    pub subject: S,
+    pub reference: R,
+    pub ledger: Ledger,
+    pub force: Force,
+    stored: Stored,
+    before: Snapshot,
+    after: Snapshot,
+    reference_after: Snapshot,
+    ours: Lent,
+    theirs: Lent,
+}
+
+/// What an event that passed every check gave.
+pub struct Step<'a> {
+    pub reply: Reply,
+    /// The slots told.
+    pub slots: &'a [u16],
+    pub records: Vec<Record>,
+    pub earned: Earned,
+    pub before: &'a Snapshot,
+    pub after: &'a Snapshot,
+}
+
+/// The refusal that was an event's due, if any, and the later ones that it earned besides.
+pub struct Earned {
+    pub due: Option<Reason>,
+    pub besides: Vec<Reason>,
+}
+
+impl<S: Coordinator, R: Coordinator> Trial<S, R> {
+    pub fn new(start: Start) -> Trial<S, R> {
+        let subject = S::start(start);
+        let reference = R::start(start);
+        let after = Snapshot::of(&subject);
+        Trial {
+            subject,
+            reference,
+            ledger: Ledger::new(),
+            force: Force::new(),
+            stored: Stored::new(start),
+            before: after.clone(),
+            reference_after: after.clone(),
+            after,
+            ours: Lent::default(),
+            theirs: Lent::default(),
+        }
+    }
+
+    pub fn step(&mut self, turn: &Turn) -> Result<Step<'_>, Fault> {
+        let reply = self.serve(turn)?;
+        mem::swap(&mut self.before, &mut self.after);
+        self.after.take(&self.subject);
+        self.reference_after.take(&self.reference);
+        self.check_groups(reply)?;
+        let earned = self.check_table(turn, reply)?;
+        let records = self.feed(turn, reply)?;
+        Ok(Step {
+            reply,
+            slots: &self.ours.list[..reply.answer.told()],
+            records,
+            earned,
+            before: &self.before,
+            after: &self.after,
+        })
+    }
+
+    /// Answers, bytes written, buffers and lists are the same on both sides, and what lies beyond
+    /// the records and the slots is as it was.
+    fn serve(&mut self, turn: &Turn) -> Result<Reply, Fault> {
+        let (ours, theirs) = (&mut self.ours, &mut self.theirs);
+        ours.fill(turn);
+        theirs.fill(turn);
+        let (subject, reference) = (&mut self.subject, &mut self.reference);
+        let reply = subject.serve(&turn.event, &mut ours.records, &mut ours.list);
+        let other = reference.serve(&turn.event, &mut theirs.records, &mut theirs.list);
+        if reply != other {
+            let what = format!("subject: {reply}; reference: {other}");
+            return Err(Fault::new(Check::Answer, what));
+        }
+        if let Some(what) = ours.difference(theirs) {
+            return Err(Fault::new(Check::Lent, what));
+        }
+        match ours.overstepped(turn, reply) {
+            Some(what) => Err(Fault::new(Check::Lent, what)),
+            None => Ok(reply),
+        }
+    }
+
+    fn check_groups(&self, reply: Reply) -> Result<(), Fault> {
+        if let Some(what) = self.after.difference(&self.reference_after) {
+            return Err(Fault::new(Check::Group, what));
+        }
+        let change = |what| Fault::new(Check::Change, what);
+        if reply.answer.is_refusal() {
+            if let Some(what) = self.before.difference(&self.after) {
+                return Err(change(format!("a refusal changed the group: {what}")));
+            }
+        }
+        if let Answer::Swept(removed) = reply.answer {
+            let (before, after) = (self.before.members.len(), self.after.members.len());
+            if before.checked_sub(after) != Some(removed as usize) {
+                let what = format!("{removed} swept, of {before} members {after} are left");
+                return Err(change(what));
+            }
+        }
+        self.after.held_once().map_err(change)
+    }
+
+    /// Why it was refused; a fault where 01's table says otherwise.
+    fn check_table(&self, turn: &Turn, reply: Reply) -> Result<Earned, Fault> {
+        let said = match reply.answer {
+            Answer::Refused { number, slot } => Some((number, slot)),
+            _ => None,
+        };
+        let mut earned = reasons::before_room(&turn.event, &self.before);
+        let due = match earned.next() {
+            None if said.is_some() => reasons::room(turn, &self.reference),
+            due => due,
+        };
+        if said != due.map(|why| (why.reason.number(), why.slot)) {
+            let what = format!("answered {said:?}, the table gives {due:?}");
+            return Err(Fault::new(Check::Table, what));
+        }
+        Ok(Earned {
+            due: due.map(|why| why.reason),
+            besides: earned.map(|why| why.reason).collect(),
+        })
+    }
+
+    fn feed(&mut self, turn: &Turn, reply: Reply) -> Result<Vec<Record>, Fault> {
+        let (event, answer) = (&turn.event, reply.answer);
+        let records = reader::read(&self.ours.records[..reply.written])
+            .map_err(|at| Fault::new(Check::Records, format!("no record at byte {at}")))?;
+        self.stored.apply(&records);
+        if let Some(what) = self.stored.difference(&self.after) {
+            return Err(Fault::new(Check::Records, what));
+        }
+        let told = &self.ours.list[..answer.told()];
+        self.force.feed(event, answer, told, &records);
+        self.ledger
+            .feed(event, answer, told, &records)
+            .and_then(|()| self.ledger.single_holder())
+            .map_err(|what| Fault::new(Check::Ledger, what))?;
+        Ok(records)
+    }
+}

@@ -1,0 +1,134 @@
+//! Bytes, buffers, lists and the room in them.
+
+use trial::data::{Beat, Reply};
+use trial::trial::Check;
+use trial::Coordinator;
+
+use super::bent::*;
+use super::{caught, caught_on_both_sides};
+
+/// One wrong byte: the last of P's in a record 8.
+pub struct WrongByte;
+
+impl Bend for WrongByte {
+    fn heartbeat(
+        &self,
+        bent: &mut Bent,
+        beat: &Beat,
+        records: &mut [u8],
+        list: &mut [u16],
+    ) -> Reply {
+        let reply = Coordinator::heartbeat(&mut bent.group, beat, records, list);
+        let has_p =
+            find(&bent.group, &beat.id).is_some_and(|(_, member)| !member.revoking.is_empty());
+        if has_p && reply.written > 0 && records[0] == 8 {
+            records[reply.written - 1] ^= 2;
+        }
+        reply
+    }
+}
+
+#[test]
+fn a_wrong_byte() {
+    caught(&WrongByte);
+    caught_on_both_sides(&WrongByte, Check::Records);
+}
+
+/// Writes what fits of a record to a buffer that is too short.
+struct WritesAtRefusal;
+
+impl Bend for WritesAtRefusal {
+    fn install(&self, bent: &mut Bent, epoch: i32, entries: &[u8], records: &mut [u8]) -> Reply {
+        let reply = Coordinator::install(&mut bent.group, epoch, entries, records);
+        if let (true, Some(first)) = (is_refused(reply, 1003), records.first_mut()) {
+            *first ^= 7;
+        }
+        reply
+    }
+}
+
+#[test]
+fn a_buffer_written_at_a_refusal() {
+    caught(&WritesAtRefusal);
+    caught_on_both_sides(&WritesAtRefusal, Check::Lent);
+}
+
+/// Clears the list beyond the slots told.
+struct ClearsListRest;
+
+impl Bend for ClearsListRest {
+    fn heartbeat(
+        &self,
+        bent: &mut Bent,
+        beat: &Beat,
+        records: &mut [u8],
+        list: &mut [u16],
+    ) -> Reply {
+        let reply = Coordinator::heartbeat(&mut bent.group, beat, records, list);
+        let told = reply.answer.told();
+        if let (1.., Some(next)) = (told, list.get_mut(told)) {
+            *next = !*next;
+        }
+        reply
+    }
+}
+
+#[test]
+fn a_list_written_beyond_its_slots() {
+    caught(&ClearsListRest);
+    caught_on_both_sides(&ClearsListRest, Check::Lent);
+}
+
+/// Wants a byte more than it writes.
+struct WantsByteMore;
+
+impl Bend for WantsByteMore {
+    fn heartbeat(
+        &self,
+        bent: &mut Bent,
+        beat: &Beat,
+        records: &mut [u8],
+        list: &mut [u16],
+    ) -> Reply {
+        let mut copy = bent.group.clone();
+        let mut bytes = records.to_vec();
+        let reply = Coordinator::heartbeat(&mut copy, beat, &mut bytes, &mut list.to_vec());
+        if reply.written > 0 && reply.written == records.len() {
+            return refused(1003);
+        }
+        Coordinator::heartbeat(&mut bent.group, beat, records, list)
+    }
+}
+
+#[test]
+fn a_buffer_of_exact_length_refused() {
+    caught(&WantsByteMore);
+    caught_on_both_sides(&WantsByteMore, Check::Table);
+}
+
+/// Wants an entry more than it tells slots.
+struct WantsEntryMore;
+
+impl Bend for WantsEntryMore {
+    fn heartbeat(
+        &self,
+        bent: &mut Bent,
+        beat: &Beat,
+        records: &mut [u8],
+        list: &mut [u16],
+    ) -> Reply {
+        let mut copy = bent.group.clone();
+        let mut bytes = records.to_vec();
+        let reply = Coordinator::heartbeat(&mut copy, beat, &mut bytes, &mut list.to_vec());
+        if reply.answer.told() > 0 && reply.answer.told() == list.len() {
+            return refused(1003);
+        }
+        Coordinator::heartbeat(&mut bent.group, beat, records, list)
+    }
+}
+
+#[test]
+fn a_list_of_exact_length_refused() {
+    caught(&WantsEntryMore);
+    caught_on_both_sides(&WantsEntryMore, Check::Table);
+}

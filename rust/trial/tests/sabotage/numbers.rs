@@ -1,0 +1,108 @@
+//! Epochs, ticks and counts.
+
+use trial::data::{Answer, Beat, Reply};
+use trial::trial::Check;
+use trial::Coordinator;
+
+use super::bent::*;
+use super::{caught, caught_on_both_sides};
+
+/// Compares ticks as plain numbers.
+struct PlainTicks;
+
+impl Bend for PlainTicks {
+    fn heartbeat(
+        &self,
+        bent: &mut Bent,
+        beat: &Beat,
+        records: &mut [u8],
+        list: &mut [u16],
+    ) -> Reply {
+        if beat.tick < bent.group.last_tick() {
+            return refused(1001);
+        }
+        Coordinator::heartbeat(&mut bent.group, beat, records, list)
+    }
+
+    fn sweep(&self, bent: &mut Bent, tick: u32, records: &mut [u8]) -> Reply {
+        if tick < bent.group.last_tick() {
+            return refused(1001);
+        }
+        Coordinator::sweep(&mut bent.group, tick, records)
+    }
+}
+
+#[test]
+fn ticks_compared_as_plain_numbers() {
+    caught(&PlainTicks);
+    caught_on_both_sides(&PlainTicks, Check::Table);
+}
+
+/// Raises G once for each member swept.
+struct RaisesForEach;
+
+impl Bend for RaisesForEach {
+    fn sweep(&self, bent: &mut Bent, tick: u32, records: &mut [u8]) -> Reply {
+        let reply = Coordinator::sweep(&mut bent.group, tick, records);
+        if let Answer::Swept(removed) = reply.answer {
+            bent.number += removed.saturating_sub(1) as i32;
+        }
+        reply
+    }
+
+    fn epoch(&self, bent: &Bent) -> i32 {
+        bent.group.epoch().saturating_add(bent.number)
+    }
+}
+
+#[test]
+fn g_raised_for_each_member_swept() {
+    caught(&RaisesForEach);
+    caught_on_both_sides(&RaisesForEach, Check::Records);
+}
+
+/// Makes up the number swept.
+struct CountsOneMore;
+
+impl Bend for CountsOneMore {
+    fn sweep(&self, bent: &mut Bent, tick: u32, records: &mut [u8]) -> Reply {
+        let mut reply = Coordinator::sweep(&mut bent.group, tick, records);
+        if let Answer::Swept(removed) = &mut reply.answer {
+            *removed += u32::from(*removed > 1);
+        }
+        reply
+    }
+}
+
+#[test]
+fn a_number_swept_that_is_made_up() {
+    caught(&CountsOneMore);
+    caught_on_both_sides(&CountsOneMore, Check::Change);
+}
+
+/// Sets the group's last tick although the heartbeat is refused.
+struct TicksAtRefusal;
+
+impl Bend for TicksAtRefusal {
+    fn heartbeat(
+        &self,
+        bent: &mut Bent,
+        beat: &Beat,
+        records: &mut [u8],
+        list: &mut [u16],
+    ) -> Reply {
+        let reply = Coordinator::heartbeat(&mut bent.group, beat, records, list);
+        bent.tick = is_refused(reply, 110).then_some(beat.tick);
+        reply
+    }
+
+    fn last_tick(&self, bent: &Bent) -> u32 {
+        bent.tick.unwrap_or(bent.group.last_tick())
+    }
+}
+
+#[test]
+fn a_tick_set_at_a_refusal() {
+    caught(&TicksAtRefusal);
+    caught_on_both_sides(&TicksAtRefusal, Check::Change);
+}

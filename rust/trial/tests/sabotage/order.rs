@@ -1,0 +1,108 @@
+//! Two refusals tried in the wrong order.
+
+use trial::data::{Beat, Reply};
+use trial::trial::Check;
+use trial::Coordinator;
+
+use super::bent::*;
+use super::{caught, caught_on_both_sides};
+
+/// 25 before the first row 42.
+struct UnknownFirst;
+
+impl Bend for UnknownFirst {
+    fn heartbeat(
+        &self,
+        bent: &mut Bent,
+        beat: &Beat,
+        records: &mut [u8],
+        list: &mut [u16],
+    ) -> Reply {
+        let reply = Coordinator::heartbeat(&mut bent.group, beat, records, list);
+        let is_swapped =
+            is_refused(reply, 42) && beat.epoch > 0 && find(&bent.group, &beat.id).is_none();
+        if is_swapped {
+            return refused(25);
+        }
+        reply
+    }
+}
+
+#[test]
+fn unknown_before_malformed() {
+    caught(&UnknownFirst);
+    caught_on_both_sides(&UnknownFirst, Check::Table);
+}
+
+/// 42 again before 110.
+struct NotHeldFirst;
+
+impl Bend for NotHeldFirst {
+    fn heartbeat(
+        &self,
+        bent: &mut Bent,
+        beat: &Beat,
+        records: &mut [u8],
+        list: &mut [u16],
+    ) -> Reply {
+        let reply = Coordinator::heartbeat(&mut bent.group, beat, records, list);
+        if let (true, Some((_, member))) = (is_refused(reply, 110), find(&bent.group, &beat.id)) {
+            let mut owned = beat.owned.iter().flatten();
+            if owned.any(|&slot| !member.holds(slot)) {
+                return refused(42);
+            }
+        }
+        reply
+    }
+}
+
+#[test]
+fn not_held_before_fenced() {
+    caught(&NotHeldFirst);
+    caught_on_both_sides(&NotHeldFirst, Check::Table);
+}
+
+/// 1002 before 81.
+struct EpochEndFirst;
+
+impl Bend for EpochEndFirst {
+    fn heartbeat(
+        &self,
+        bent: &mut Bent,
+        beat: &Beat,
+        records: &mut [u8],
+        list: &mut [u16],
+    ) -> Reply {
+        let reply = Coordinator::heartbeat(&mut bent.group, beat, records, list);
+        if is_refused(reply, 81) && bent.group.epoch() == i32::MAX {
+            return refused(1002);
+        }
+        reply
+    }
+}
+
+#[test]
+fn the_end_of_epochs_before_a_full_group() {
+    let report = caught(&EpochEndFirst);
+    // 32 joins, a 33rd, and nothing besides.
+    assert_eq!(report.shortest.turns.len(), 33);
+}
+
+/// 1005 before 1004.
+struct AlreadyFirst;
+
+impl Bend for AlreadyFirst {
+    fn install(&self, bent: &mut Bent, epoch: i32, entries: &[u8], records: &mut [u8]) -> Reply {
+        let reply = Coordinator::install(&mut bent.group, epoch, entries, records);
+        if is_refused(reply, 1004) && bent.group.epoch() == bent.group.target_epoch() {
+            return refused(1005);
+        }
+        reply
+    }
+}
+
+#[test]
+fn already_before_stale() {
+    caught(&AlreadyFirst);
+    caught_on_both_sides(&AlreadyFirst, Check::Table);
+}

@@ -1,0 +1,164 @@
+//! "How a slot gets lost or doubled."
+
+use trial::data::{Answer, Beat, Event, Reply};
+use trial::trial::Check;
+use trial::Coordinator;
+
+use super::bent::*;
+use super::{caught, caught_on_both_sides};
+
+/// Frees P because a heartbeat without a list came in.
+struct FreesWithoutList;
+
+impl Bend for FreesWithoutList {
+    fn heartbeat(
+        &self,
+        bent: &mut Bent,
+        beat: &Beat,
+        records: &mut [u8],
+        list: &mut [u16],
+    ) -> Reply {
+        let mut beat = beat.clone();
+        if let (None, Some((_, member))) = (&beat.owned, sender(&bent.group, &beat)) {
+            beat.owned = Some(member.assigned);
+        }
+        Coordinator::heartbeat(&mut bent.group, &beat, records, list)
+    }
+}
+
+#[test]
+fn p_freed_without_a_list() {
+    caught(&FreesWithoutList);
+    caught_on_both_sides(&FreesWithoutList, Check::Ledger);
+}
+
+/// Frees P although the list still has a part of it.
+struct FreesPartlyListed;
+
+impl Bend for FreesPartlyListed {
+    fn heartbeat(
+        &self,
+        bent: &mut Bent,
+        beat: &Beat,
+        records: &mut [u8],
+        list: &mut [u16],
+    ) -> Reply {
+        let mut beat = beat.clone();
+        let sender = sender(&bent.group, &beat);
+        if let (Some(owned), Some((_, member))) = (&mut beat.owned, sender) {
+            let all = member.revoking.iter().all(|slot| owned.contains(slot));
+            if !all {
+                owned.retain(|slot| !member.revoking.contains(slot));
+            }
+        }
+        Coordinator::heartbeat(&mut bent.group, &beat, records, list)
+    }
+}
+
+#[test]
+fn p_freed_while_a_part_of_it_is_listed() {
+    caught(&FreesPartlyListed);
+    caught_on_both_sides(&FreesPartlyListed, Check::Ledger);
+}
+
+/// Tells a member all of M at once.
+struct HandsOutWholeTarget;
+
+impl Bend for HandsOutWholeTarget {
+    fn heartbeat(
+        &self,
+        bent: &mut Bent,
+        beat: &Beat,
+        records: &mut [u8],
+        list: &mut [u16],
+    ) -> Reply {
+        let reply = Coordinator::heartbeat(&mut bent.group, beat, records, list);
+        match find(&bent.group, &beat.id) {
+            Some((place, _)) => tell(reply, &target(&bent.group, place), list),
+            None => reply,
+        }
+    }
+}
+
+#[test]
+fn the_whole_target_handed_out() {
+    caught(&HandsOutWholeTarget);
+    caught_on_both_sides(&HandsOutWholeTarget, Check::Ledger);
+}
+
+/// Lets a new member at an old place find the old target: of a place whose member left, the last
+/// target is kept until the next install, and told to whoever sits there.
+struct KeepsOldTarget;
+
+impl Bend for KeepsOldTarget {
+    fn heartbeat(
+        &self,
+        bent: &mut Bent,
+        beat: &Beat,
+        records: &mut [u8],
+        list: &mut [u16],
+    ) -> Reply {
+        let place_before = find(&bent.group, &beat.id).map(|(place, _)| place);
+        let targets = place_before.map(|place| (place, target(&bent.group, place)));
+        let reply = Coordinator::heartbeat(&mut bent.group, beat, records, list);
+        match (reply.answer, targets) {
+            (Answer::Left, Some((place, slots))) => {
+                for slot in slots {
+                    bent.target[usize::from(slot)] = Some(place);
+                }
+                reply
+            }
+            (Answer::Assignment { .. }, Some((place, _))) if beat.epoch > 0 => {
+                let slots = 0..1_024_u16;
+                let is_told = |&slot: &u16| {
+                    let (old, new) = (bent.target[usize::from(slot)], bent.group.target_of(slot));
+                    old == Some(place) || new == Some(place) && old.is_none()
+                };
+                if bent.target.contains(&Some(place)) {
+                    let slots: Vec<u16> = slots.filter(is_told).collect();
+                    tell(reply, &slots, list)
+                } else {
+                    reply
+                }
+            }
+            _ => reply,
+        }
+    }
+
+    fn install(&self, bent: &mut Bent, epoch: i32, entries: &[u8], records: &mut [u8]) -> Reply {
+        let reply = Coordinator::install(&mut bent.group, epoch, entries, records);
+        if !reply.answer.is_refusal() {
+            bent.target.fill(None);
+        }
+        reply
+    }
+}
+
+#[test]
+fn an_old_target_found_by_a_new_member() {
+    let report = caught(&KeepsOldTarget);
+    let turns = &report.shortest.turns;
+    let leaves = |event: &Event| matches!(event, Event::Heartbeat(beat) if beat.epoch == -1);
+    assert!(turns.iter().any(|turn| leaves(&turn.event)));
+}
+
+/// Never hands out a slot: every target is taken for an empty one. The single holder holds.
+struct HandsOutNothing;
+
+impl Bend for HandsOutNothing {
+    fn install(&self, bent: &mut Bent, epoch: i32, entries: &[u8], records: &mut [u8]) -> Reply {
+        let nothing = vec![255; 1_024];
+        let reply =
+            Coordinator::install(&mut bent.group.clone(), epoch, entries, &mut vec![0; 4_096]);
+        if reply.answer.is_refusal() {
+            return reply;
+        }
+        Coordinator::install(&mut bent.group, epoch, &nothing, records)
+    }
+}
+
+#[test]
+fn no_slot_ever_handed_out() {
+    caught(&HandsOutNothing);
+    caught_on_both_sides(&HandsOutNothing, Check::Rounds);
+}
