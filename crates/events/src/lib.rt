@@ -2,6 +2,7 @@
 ghost use mathlib.Core.Path.{_≡_};
 
 mod answers; // answers.rt: answers as plain numbers
+pub mod rows; // rows.rt: rows of more than one kind of heartbeat
 
 pub use answers::Said;
 pub use answers::number_of;
@@ -9,6 +10,9 @@ pub use answers::what_is_said;
 use group::Group;
 use rules::Answer;
 use rules::Refusal;
+
+// The interval at which members are asked to send heartbeats.
+pub const INTERVAL: u32 = 5000;
 
 // What an event comes to: the group after it, the answer, and how many bytes of records were written to the buffer.
 #[repr(C)]

@@ -1,0 +1,165 @@
+// A join: a heartbeat with epoch 0. A known member keeps its place, another takes the lowest free one; either starts there with no slots and no target,
+// at the group epoch that its join raises.
+ghost use mathlib.Core.Path.{_≡_};
+ghost use mathlib.Core.Bool.{_&&_, _||_};
+ghost use mathlib.Core.List.{List};
+ghost use Prim.Native.Nat.{ℕ, _<_};
+ghost use Rattle.rules.specs.Basics.{any, default};
+ghost use Rattle.rules.specs.Constants.{lastEpoch};
+ghost use Rattle.rules.specs.Group.{targeted};
+ghost use Rattle.rules.specs.Refusals.{joins, malformed, lacking};
+ghost use Rattle.rules.specs.Effects.{joinAt};
+ghost use Rattle.tables.specs.View.{viewTables};
+ghost use Rattle.group.specs.View.{view};
+ghost use Rattle.events.specs.Outcomes.{took, subscriptionOf, requestOf, carried, stepAs};
+ghost use Rattle.joining.specs.Joining.{Chooses};
+use events::INTERVAL;
+use events::Outcome;
+use events::Request;
+use events::refused;
+use events::rows;
+use group::Found;
+use group::Group;
+use group::Seat;
+use group::changes;
+use group::epochs;
+use group::requests;
+use group::seats;
+use group::ticks;
+use records::batches;
+use rules::Answer;
+use rules::Assignment;
+use rules::Place;
+use rules::Refusal;
+use tables::Tables;
+
+// Where a member joins, and whether it is known: the place is then its own.
+struct Choice {
+    place: Found,
+    known: bool,
+}
+
+// The second part of row 42: whether a join lacks a subscription, a timeout or an empty list.
+fn is_lacking(b: Request, owned: &[u16]) -> bool
+    ensures { λ r. ⌜ r ≡ lacking (requestOf b (now (owned .entry))) ⌝ }
+{
+    if b.has_subscription {
+        if requests::has_no_timeout(b.timeout) {
+            return true;
+        }
+        if b.has_list {
+            return owned.len() != 0;
+        }
+        return true;
+    }
+    true
+}
+
+// Row 42 of a join.
+fn is_bad_join(b: Request, owned: &[u16]) -> bool
+    ensures { λ r. ⌜ r ≡ (malformed (requestOf b (now (owned .entry))) || lacking (requestOf b (now (owned .entry)))) ⌝ }
+{
+    if rows::is_malformed(b, owned) {
+        return true;
+    }
+    is_lacking(b, owned)
+}
+
+// The place of the member with an ID, or else the lowest free one.
+fn choose_place(g: Group, id: [u8; 16]) -> Choice
+    ensures { λ r. ⌜ Chooses (view g) id r ⌝ }
+{
+    let own = seats::find_member(g, id);
+    match own {
+        Found::At(p) => Choice {
+            place: own,
+            known: true,
+        },
+        Found::Nowhere => {
+            let free = seats::lowest_free(g);
+            Choice {
+                place: free,
+                known: false,
+            }
+        }
+    }
+}
+
+// The subscription that is given, or none.
+fn subscription_of(b: Request) -> u16
+    ensures { λ r. ⌜ r ≡ default 0 (subscriptionOf (b .«has_subscription») (b .subscription)) ⌝ }
+{
+    if b.has_subscription {
+        return b.subscription;
+    }
+    0
+}
+
+// Whether a member that joins again loses a target; a new one has none to lose.
+fn loses_target(tables: Tables, p: Place, known: bool) -> bool
+    ensures { λ r. ⌜ r ≡ (known && any (targeted (p .0)) (viewTables tables)) ⌝ }
+{
+    if known {
+        return tables.has_target(p);
+    }
+    false
+}
+
+// The join at a place: only the last row, 1003, is left to try. If the records do not fit the buffer, nothing changes.
+fn join_at(g: Group, p: Place, known: bool, b: Request, records: &mut [u8]) -> Outcome
+    requires { ⌜ g .epoch < lastEpoch ⌝ }
+    ensures { λ r. ⌜ ((owned l : List ℕ) → took r (now (records .exit)) l ≡ carried (view g) (joinAt (view g) (p .0) known (requestOf b owned)) (now (records .entry)) l) ⌝ }
+{
+    let tables = g.tables;
+    let retargets = loses_target(tables, p, known);
+    let epoch = g.epoch + 1;
+    let timeout = requests::timeout_or(b.timeout, 0);
+    let subscription = subscription_of(b);
+    let id = b.id;
+    let size = batches::join_records_len(p, retargets, id, timeout, subscription, epoch);
+    if records.len() < size {
+        return refused(g, Refusal::Room);
+    }
+    let written = batches::put_join_records(
+        records,
+        p,
+        retargets,
+        id,
+        timeout,
+        subscription,
+        epoch,
+    );
+    let after = tables.vacate(p);
+    let seat = Seat::joined(id, epoch, subscription, timeout, b.tick);
+    Outcome {
+        group: changes::with_seat(g, p, seat, after, epoch, b.tick),
+        answer: Answer::Assigned(Assignment {
+            epoch: epoch,
+            interval: INTERVAL,
+            count: 0,
+        }),
+        written: written,
+    }
+}
+
+// A heartbeat taken as a join. The answer carries no slots, so that no list is lent.
+pub fn join(g: Group, b: Request, owned: &[u16], records: &mut [u8]) -> Outcome
+    ensures { λ r. ⌜ ((l : List ℕ) → took r (now (records .exit)) l ≡ stepAs joins (view g) (requestOf b (now (owned .entry))) (now (records .entry)) l) ⌝ }
+{
+    if ticks::goes_back(g.tick, b.tick) {
+        return refused(g, Refusal::Clock);
+    }
+    if is_bad_join(b, owned) {
+        return refused(g, Refusal::InvalidRequest);
+    }
+    let id = b.id;
+    let choice = choose_place(g, id);
+    let found = choice.place;
+    let Found::At(p) = found else {
+        return refused(g, Refusal::GroupMaxSizeReached);
+    };
+    if epochs::at_end(g.epoch) {
+        return refused(g, Refusal::EpochEnd);
+    }
+    join_at(g, p, choice.known, b, records)
+}
