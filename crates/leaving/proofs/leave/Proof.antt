@@ -1,8 +1,10 @@
 -- At each return the tests that led there say which row applies, or that none does.
 use Prim.Native.Nat.{ℕ}
-use mathlib.Core.Path.{sym, ap, _∙_}
+use mathlib.Core.Bool.{false}
+use mathlib.Core.Path.{_≡_, sym, ap, _∙_}
 use borrow.Author.Needs.{needs}
 use Rattle.rules.specs.Effects.{leaveAt}
+use Rattle.rules.specs.Refusals.{goesBack, zeroId}
 use Rattle.group.proofs.Finding.{hit, miss}
 use Rattle.group.proofs.Views.{goes-back-is}
 use Rattle.group.specs.View.{view}
@@ -11,6 +13,14 @@ use Rattle.events.proofs.Carrying.{took-refused}
 use Rattle.leaving.proofs.LeaveRows.{row-clock, row-zero, row-unknown, leave-step}
 use Rattle.leaving.proofs.leave.Statement.{statement}
 use Rattle.leaving.proofs.leave.Tie as tie
+
+-- row 1001 does not apply
+forward : (c : tie.Else1) → let a = c .before .before .before .before .args in goesBack (view (a .g)) (a .b .tick) ≡ false
+forward c = let a = c .before .before .before .before .args in sym (goes-back-is (a .g) (a .b .tick)) ∙ sym (c .before .goes-back .ensures) ∙ c .if1 .left
+
+-- nor does row 42
+nonzero : (c : tie.Else2) → zeroId (c .before .before .before .before .before .before .args .b .id) ≡ false
+nonzero c = sym (c .before .is-zero .ensures) ∙ c .if2 .left
 
 goes-back-requires : tie.Need-goes-back-requires
 goes-back-requires c κs = tt
@@ -38,8 +48,7 @@ returns-2 c =
     λ owned l.
     let a = c .before .before .before .before .before .before .before .args in
     took-refused (a .records .now) l (c .refused2 .ensures)
-    ∙ sym (row-zero (view (a .g)) (requestOf (a .b) owned) (a .records .now) l (sym (goes-back-is (a .g) (a .b .tick)) ∙ sym (c .before .before .before .before .goes-back .ensures) ∙ c .before .before .before .if1 .left)
-    (sym (c .before .before .is-zero .ensures) ∙ c .before .if2 .taken))
+    ∙ sym (row-zero (view (a .g)) (requestOf (a .b) owned) (a .records .now) l (forward (c .before .before .before)) (sym (c .before .before .is-zero .ensures) ∙ c .before .if2 .taken))
 
 find-member-requires : tie.Need-find-member-requires
 find-member-requires c κs = tt
@@ -67,8 +76,8 @@ returns-3 c =
     let h = hit (c .before .before .before .before .before .found .given .1) (c .before .before .before .before .before .before .before .find-member .ensures) in
     c .before .before .leave-at .ensures l
     ∙ ap (λ (p : ℕ). carried (view (a .g)) (leaveAt (view (a .g)) p (a .b .tick)) (a .records .now) l) (sym (h .first))
-    ∙ sym (leave-step (view (a .g)) (requestOf (a .b) owned) (a .records .now) l (sym (goes-back-is (a .g) (a .b .tick)) ∙ sym (c .before .before .before .before .before .before .before .before .before .before .before .goes-back .ensures) ∙ c .before .before .before .before .before .before .before .before .before .before .if1 .left)
-    (sym (c .before .before .before .before .before .before .before .before .before .is-zero .ensures) ∙ c .before .before .before .before .before .before .before .before .if2 .left) (h .found))
+    ∙ sym (leave-step (view (a .g)) (requestOf (a .b) owned) (a .records .now) l
+    (forward (c .before .before .before .before .before .before .before .before .before .before)) (nonzero (c .before .before .before .before .before .before .before .before)) (h .found))
 
 returns-4 : tie.Need-returns-4
 unfolding requestOf
@@ -76,8 +85,24 @@ returns-4 c =
     λ owned l.
     let a = c .before .before .before .before .before .before .before .before .before .before .args in
     took-refused (a .records .now) l (c .refused3 .ensures)
-    ∙ sym (row-unknown (view (a .g)) (requestOf (a .b) owned) (a .records .now) l (sym (goes-back-is (a .g) (a .b .tick)) ∙ sym (c .before .before .before .before .before .before .before .goes-back .ensures) ∙ c .before .before .before .before .before .before .if1 .left)
-    (sym (c .before .before .before .before .before .is-zero .ensures) ∙ c .before .before .before .before .if2 .left) (miss _ (c .before .enum-told .given .1) (c .before .before .before .find-member .ensures)))
+    ∙ sym (row-unknown (view (a .g)) (requestOf (a .b) owned) (a .records .now) l
+    (forward (c .before .before .before .before .before .before)) (nonzero (c .before .before .before .before)) (miss _ (c .before .enum-told .given .1) (c .before .before .before .find-member .ensures)))
 
 pub leave-spec : {M : Type 1} → statement M
-leave-spec = tie.close (tie.spec goes-back-requires refused-requires returns is-zero-requires refused-requires-2 returns-2 find-member-requires enum-known-found leave-at-requires enum-told refused-requires-3 same-length returns-3 returns-4)
+leave-spec =
+    tie.close
+    (tie.spec
+    goes-back-requires
+    refused-requires
+    returns
+    is-zero-requires
+    refused-requires-2
+    returns-2
+    find-member-requires
+    enum-known-found
+    leave-at-requires
+    enum-told
+    refused-requires-3
+    same-length
+    returns-3
+    returns-4)

@@ -11,10 +11,15 @@ use Rattle.events.proofs.Storing.{too-long, stored}
 use Rattle.leaving.proofs.leave_at.Statement.{statement}
 use Rattle.leaving.proofs.leave_at.Tie as tie
 
+abbrev start : tie.After-leave-records-len → tie.Start
+start c = c .before .before .before .before .before .before
+
+-- what the code stores is what the effect does
 recorded : (c : tie.After-leave-records-len)
-    → leaveRecords (c .before .before .before .before .before .before .args .p .0) (c .before .before .before .has-target .result) (not (c .before .before .at-end .result)) (c .before .raised-epoch .result) ≡ leaveAt (view (c .before .before .before .before .before .before .args .g)) (c .before .before .before .before .before .before .args .p .0) (c .before .before .before .before .before .before .args .tick) .records
+    → leaveRecords (start c .args .p .0) (c .before .before .before .has-target .result) (not (c .before .before .at-end .result)) (c .before .raised-epoch .result)
+    ≡ leaveAt (view (start c .args .g)) (start c .args .p .0) (start c .args .tick) .records
 recorded c =
-    let a = c .before .before .before .before .before .before .args in
+    let a = start c .args in
     leave-records (a .g) (a .p .0) (a .tick) (c .before .raised-epoch .ensures) (c .before .before .before .has-target .ensures) (ap not (c .before .before .at-end .ensures))
 
 has-target-requires : tie.Need-has-target-requires
@@ -36,7 +41,8 @@ returns : tie.Need-returns
 returns c =
     λ l.
     let a = c .before .before .before .before .before .before .before .before .args in
-    too-long (leaveAt (view (a .g)) (a .p .0) (a .tick)) (recorded (c .before .before)) (a .records .now) l (omega (arith, c .before .before .leave-records-len .ensures .0, c .before .if1 .taken)) (c .refused .ensures)
+    too-long (leaveAt (view (a .g)) (a .p .0) (a .tick)) (recorded (c .before .before)) (a .records .now) l
+    (omega (arith, c .before .before .leave-records-len .ensures .0, c .before .if1 .taken)) (c .refused .ensures)
 
 put-leave-records-requires : tie.Need-put-leave-records-requires
 put-leave-records-requires c κs = omega (arith, c .before .before .leave-records-len .ensures .0, c .before .if1 .left)
@@ -58,8 +64,22 @@ returns-2 c =
     stored (leaveAt (view (a .g)) (a .p .0) (a .tick)) (recorded (c .before .before .before .before .before .before .before)) (a .records .now) l (view (a .g))
     (record { group = c .stamped .result; answer = Left; written = c .before .before .before .before .put-leave-records .result }) refl
     (omega (arith, c .before .before .before .before .before .before .before .leave-records-len .ensures .0, c .before .before .before .before .before .before .if1 .left)) refl
-    (leave-group (a .g) (a .p .0) (a .tick) (c .before .before .before .before .before .before .before .before .raised-epoch .ensures) (c .before .remove-member .result) (c .stamped .result) (c .before .remove-member .ensures) (c .stamped .ensures))
+    (leave-group (a .g) (a .p .0) (a .tick) (c .before .before .before .before .before .before .before .before .raised-epoch .ensures)
+    (c .before .remove-member .result) (c .stamped .result) (c .before .remove-member .ensures) (c .stamped .ensures))
     (c .before .before .before .before .put-leave-records .ensures)
 
 pub leave-at-spec : {M : Type 1} → statement M
-leave-at-spec = tie.close (tie.spec has-target-requires at-end-requires raised-epoch-requires leave-records-len-requires refused-requires returns put-leave-records-requires remove-member-requires stamped-requires same-length returns-2)
+leave-at-spec =
+    tie.close
+    (tie.spec
+    has-target-requires
+    at-end-requires
+    raised-epoch-requires
+    leave-records-len-requires
+    refused-requires
+    returns
+    put-leave-records-requires
+    remove-member-requires
+    stamped-requires
+    same-length
+    returns-2)

@@ -1,11 +1,23 @@
 -- At each return the tests that led there say which row applies, or that none does.
-use mathlib.Core.Path.{sym, _∙_}
+use mathlib.Core.Bool.{false, _&&_}
+use mathlib.Core.Path.{_≡_, sym, _∙_}
 use borrow.Author.Needs.{needs}
+use Rattle.rules.specs.Refusals.{topicBad, topicRaises, atEnd}
 use Rattle.group.specs.View.{view}
 use Rattle.events.proofs.Carrying.{took-refused}
 use Rattle.topics.proofs.TopicRows.{row-bad, row-end, topic-step, topic-end}
 use Rattle.topics.proofs.topic.Statement.{statement}
 use Rattle.topics.proofs.topic.Tie as tie
+
+-- row 1007 does not apply
+good : (c : tie.Else1) → let a = c .before .before .before .args in topicBad (view (a .g)) (a .number) (a .id) (a .count) ≡ false
+good c = sym (c .before .is-bad-topic .ensures) ∙ c .if1 .left
+
+-- nor does row 1002
+not-past : (c : tie.Else2) → let a = c .before .before .before .before .before .before .args in (topicRaises (view (a .g)) (a .number) (a .count) && atEnd (view (a .g))) ≡ false
+not-past c =
+    let a = c .before .before .before .before .before .before .args in
+    topic-end (a .g) (a .number) (a .count) (c .before .before .topic-raises .ensures) (sym (c .before .past-end .ensures) ∙ c .if2 .left)
 
 is-bad-topic-requires : tie.Need-is-bad-topic-requires
 is-bad-topic-requires c κs = tt
@@ -34,16 +46,11 @@ returns-2 c =
     λ l.
     let a = c .before .before .before .before .before .before .before .args in
     took-refused (a .records .now) l (c .refused2 .ensures)
-    ∙ sym (row-end (view (a .g)) (a .number) (a .id) (a .count) (a .records .now) l (sym (c .before .before .before .before .before .is-bad-topic .ensures) ∙ c .before .before .before .before .if1 .left)
+    ∙ sym (row-end (view (a .g)) (a .number) (a .id) (a .count) (a .records .now) l (good (c .before .before .before .before))
     (topic-end (a .g) (a .number) (a .count) (c .before .before .before .topic-raises .ensures) (sym (c .before .before .past-end .ensures) ∙ c .before .if2 .taken)))
 
 topic-at-requires : tie.Need-topic-at-requires
-topic-at-requires c κs =
-    let a = c .before .before .before .before .before .before .before .args in (
-      sym (c .before .before .before .before .before .is-bad-topic .ensures) ∙ c .before .before .before .before .if1 .left,
-      c .before .before .before .topic-raises .ensures,
-      topic-end (a .g) (a .number) (a .count) (c .before .before .before .topic-raises .ensures) (sym (c .before .before .past-end .ensures) ∙ c .before .if2 .left),
-    )
+topic-at-requires c κs = (good (c .before .before .before .before), c .before .before .before .topic-raises .ensures, not-past (c .before))
 
 same-length : tie.Need-same-length
 same-length c = search needs
@@ -52,9 +59,20 @@ returns-3 : tie.Need-returns-3
 returns-3 c =
     λ l.
     let a = c .before .before .before .before .before .before .before .before .before .before .args in
-    c .before .before .topic-at .ensures l
-    ∙ sym (topic-step (view (a .g)) (a .number) (a .id) (a .count) (a .records .now) l (sym (c .before .before .before .before .before .before .before .before .is-bad-topic .ensures) ∙ c .before .before .before .before .before .before .before .if1 .left)
-    (topic-end (a .g) (a .number) (a .count) (c .before .before .before .before .before .before .topic-raises .ensures) (sym (c .before .before .before .before .before .past-end .ensures) ∙ c .before .before .before .before .if2 .left)))
+    c .before .before .topic-at .ensures l ∙ sym (topic-step (view (a .g)) (a .number) (a .id) (a .count) (a .records .now) l
+    (good (c .before .before .before .before .before .before .before)) (not-past (c .before .before .before .before)))
 
 pub topic-spec : {M : Type 1} → statement M
-topic-spec = tie.close (tie.spec is-bad-topic-requires refused-requires returns topic-raises-requires past-end-requires refused-requires-2 returns-2 topic-at-requires same-length returns-3)
+topic-spec =
+    tie.close
+    (tie.spec
+    is-bad-topic-requires
+    refused-requires
+    returns
+    topic-raises-requires
+    past-end-requires
+    refused-requires-2
+    returns-2
+    topic-at-requires
+    same-length
+    returns-3)

@@ -11,12 +11,16 @@ use Rattle.topics.proofs.TopicRows.{topic-records, topic-group}
 use Rattle.topics.proofs.topic_at.Statement.{statement}
 use Rattle.topics.proofs.topic_at.Tie as tie
 
+abbrev start : tie.After-topic-records-len → tie.Start
+start c = c .before .before .before .before
+
+-- what the code stores is what the effect does
 recorded : (c : tie.After-topic-records-len)
-    → topicRecords (c .before .before .before .before .args .number) (c .before .before .before .before .args .id) (c .before .before .before .before .args .count) (c .before .before .topic-changes .result) (c .before .before .before .before .args .raises) (c .before .epoch-after .result)
-    ≡ topicEffect (view (c .before .before .before .before .args .g)) (c .before .before .before .before .args .number) (c .before .before .before .before .args .id) (c .before .before .before .before .args .count) .records
+    → topicRecords (start c .args .number) (start c .args .id) (start c .args .count) (c .before .before .topic-changes .result) (start c .args .raises) (c .before .epoch-after .result)
+    ≡ topicEffect (view (start c .args .g)) (start c .args .number) (start c .args .id) (start c .args .count) .records
 recorded c =
-    let a = c .before .before .before .before .args in
-    let n = c .before .before .before .before .pre in
+    let a = start c .args in
+    let n = start c .pre in
     topic-records (a .g) (a .number) (a .id) (a .count) (c .before .before .topic-changes .ensures) (n .1) (n .2) (c .before .epoch-after .ensures)
 
 topic-changes-requires : tie.Need-topic-changes-requires
@@ -35,7 +39,8 @@ returns : tie.Need-returns
 returns c =
     λ l.
     let a = c .before .before .before .before .before .before .args in
-    too-long (topicEffect (view (a .g)) (a .number) (a .id) (a .count)) (recorded (c .before .before)) (a .records .now) l (omega (arith, c .before .before .topic-records-len .ensures .0, c .before .if1 .taken)) (c .refused .ensures)
+    too-long (topicEffect (view (a .g)) (a .number) (a .id) (a .count)) (recorded (c .before .before)) (a .records .now) l
+    (omega (arith, c .before .before .topic-records-len .ensures .0, c .before .if1 .taken)) (c .refused .ensures)
 
 put-topic-records-requires : tie.Need-put-topic-records-requires
 put-topic-records-requires c κs = omega (arith, c .before .before .topic-records-len .ensures .0, c .before .if1 .left)
@@ -61,8 +66,21 @@ returns-2 c =
     stored (topicEffect (view (a .g)) (a .number) (a .id) (a .count)) (recorded (c .before .before .before .before .before .before)) (a .records .now) l (view (a .g))
     (record { group = c .with-topic .result; answer = Done; written = c .before .before .before .put-topic-records .result }) refl
     (omega (arith, c .before .before .before .before .before .before .topic-records-len .ensures .0, c .before .before .before .before .before .if1 .left)) refl
-    (topic-group (a .g) (a .number) (a .id) (a .count) (c .before .before .before .before .before .before .before .before .topic-changes .ensures) (n .1) (n .2) (c .before .before .before .before .before .before .before .epoch-after .ensures) (c .with-topic .result) v)
+    (topic-group (a .g) (a .number) (a .id) (a .count) (c .before .before .before .before .before .before .before .before .topic-changes .ensures) (n .1) (n .2) (c .before .before .before .before .before .before .before .epoch-after .ensures)
+    (c .with-topic .result) v)
     (c .before .before .before .put-topic-records .ensures)
 
 pub topic-at-spec : {M : Type 1} → statement M
-topic-at-spec = tie.close (tie.spec topic-changes-requires epoch-after-requires topic-records-len-requires refused-requires returns put-topic-records-requires cast-with-topic with-topic-requires same-length returns-2)
+topic-at-spec =
+    tie.close
+    (tie.spec
+    topic-changes-requires
+    epoch-after-requires
+    topic-records-len-requires
+    refused-requires
+    returns
+    put-topic-records-requires
+    cast-with-topic
+    with-topic-requires
+    same-length
+    returns-2)

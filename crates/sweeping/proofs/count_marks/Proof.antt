@@ -1,0 +1,65 @@
+-- The count and the marked places from i on make up all that are marked.
+use Prim.Native.Nat.{_+_, _-_, _≤_}
+use native.Mathlib.Nat.{zero-add}
+use native.Mathlib.Omega.{arith}
+use mathlib.Core.Path.{_≡_, sym, ap, _∙_}
+use lib.ListN.{length}
+use borrow.Author.Needs.{needs}
+use Rattle.rules.specs.Constants.{maxMembers}
+use Rattle.sweeping.specs.Marks.{marked}
+use Rattle.sweeping.proofs.Places.{from, mark, marked-is, from-in, from-out, from-end}
+use Rattle.sweeping.proofs.count_marks.Statement.{statement}
+use Rattle.sweeping.proofs.count_marks.Tie as tie
+
+abbrev Inv-loop : tie.InvT-loop
+Inv-loop gone n₀ i₀ n i = (i ≤ maxMembers) × (n ≤ i) × (n + length (from (mark gone) i) ≡ length (marked gone))
+
+abbrev μ-loop : tie.MeasureT-loop
+μ-loop gone n₀ i₀ n i = maxMembers - i
+
+loop-holds : tie.Need-loop-holds Inv-loop μ-loop
+loop-holds c = (omega arith, omega arith, zero-add _ ∙ sym (ap length (marked-is _)))
+
+add-i : tie.Need-add-i Inv-loop μ-loop
+add-i c = omega arith
+
+array-read-if1 : tie.Need-array-read-if1 Inv-loop μ-loop
+array-read-if1 c = search needs
+
+add-n : tie.Need-add-n Inv-loop μ-loop
+add-n c = omega arith
+
+loop-less : tie.Need-loop-less Inv-loop μ-loop
+loop-less c = omega arith
+
+loop-again : tie.Need-loop-again Inv-loop μ-loop
+loop-again c =
+    let l = c .before .before .loop in
+    (omega arith, omega arith, omega (arith, ap length (from-in (mark (c .before .before .before .args .t1)) (l .i) (omega arith) (c .if1 .taken)), l .inv .2))
+
+loop-less-2 : tie.Need-loop-less-2 Inv-loop μ-loop
+loop-less-2 c = omega arith
+
+loop-again-2 : tie.Need-loop-again-2 Inv-loop μ-loop
+loop-again-2 c =
+    let l = c .before .before .loop in
+    (omega arith, omega arith, omega (arith, ap length (from-out (mark (c .before .before .before .args .t1)) (l .i) (omega arith) (c .if1 .left)), l .inv .2))
+
+returns : tie.Need-returns Inv-loop μ-loop
+returns c = let l = c .before .loop in omega (arith, ap length (from-end (mark (c .before .before .args .t1)) (l .i) (omega arith)), l .inv .2)
+
+pub count-marks-spec : {M : Type 1} → statement M
+count-marks-spec =
+    tie.close
+    (tie.spec
+    Inv-loop
+    μ-loop
+    loop-holds
+    add-i
+    array-read-if1
+    add-n
+    loop-less
+    loop-again
+    loop-less-2
+    loop-again-2
+    returns)

@@ -1,0 +1,110 @@
+-- The records from place i on are to come (`Writing`); at a marked place its records come next.
+use Prim.Native.Nat.{_+_, _-_, _≤_}
+use native.Mathlib.Omega.{arith}
+use mathlib.Core.List.{[], _∷_, append-nil}
+use mathlib.Core.Path.{_∙_}
+use borrow.Author.Needs.{needs}
+use Rattle.rules.specs.Constants.{maxMembers}
+use Rattle.rules.specs.Records.{allBytes}
+use Rattle.numbers.proofs.Writing.{Writing, begin, to-go₁, same-len, in-range, room, put-at, part-over, ended}
+use Rattle.sweeping.specs.Marks.{marked, goneAt, markedRecords}
+use Rattle.sweeping.proofs.Places.{mark, left, bytes-end, write-in, write-out}
+use Rattle.sweeping.proofs.put_marked.Statement.{statement}
+use Rattle.sweeping.proofs.put_marked.Tie as tie
+
+abbrev Inv-loop : tie.InvT-loop
+Inv-loop buf₀ gone targets at₀ i₀ buf at i =
+    (i ≤ maxMembers) × Writing (allBytes (markedRecords gone targets)) buf₀ buf at (left (goneAt targets) (mark gone) i ∷ [])
+
+abbrev μ-loop : tie.MeasureT-loop
+μ-loop buf₀ gone targets at₀ i₀ buf at i = maxMembers - i
+
+abbrev Coming : (c : tie.Then1 Inv-loop μ-loop) → Type 0
+Coming c =
+    let l = c .before .before .loop in
+    let a = c .before .before .before .before .args in
+    Writing (allBytes (markedRecords (a .t2) (a .t3))) (a .buf .now) (l .buf) (l .at) (allBytes (goneAt (a .t3) (l .i)) ∷ left (goneAt (a .t3)) (mark (a .t2)) (l .i + 1) ∷ [])
+
+coming : (c : tie.Then1 Inv-loop μ-loop) → Coming c
+coming c =
+    let l = c .before .before .loop in
+    let a = c .before .before .before .before .args in
+    write-in (goneAt (a .t3)) (mark (a .t2)) (l .i) (omega arith) (c .if1 .taken) (l .inv .1)
+
+loop-holds : tie.Need-loop-holds Inv-loop μ-loop
+unfolding markedRecords marked
+loop-holds c = (omega arith, begin _ _ _ (append-nil _) (c .before .pre))
+
+add-i : tie.Need-add-i Inv-loop μ-loop
+add-i c = omega arith
+
+array-read-if1 : tie.Need-array-read-if1 Inv-loop μ-loop
+array-read-if1 c = search needs
+
+sub-put-gone-records : tie.Need-sub-put-gone-records Inv-loop μ-loop
+sub-put-gone-records c = omega (arith, in-range (coming c))
+
+part-put-gone-records-start : tie.Need-part-put-gone-records-start Inv-loop μ-loop
+part-put-gone-records-start c = omega (arith, in-range (coming c))
+
+part-put-gone-records-end : tie.Need-part-put-gone-records-end Inv-loop μ-loop
+part-put-gone-records-end c = search needs
+
+cast-t18 : tie.Need-cast-t18 Inv-loop μ-loop
+cast-t18 c = search needs
+
+array-read-put-gone-records : tie.Need-array-read-put-gone-records Inv-loop μ-loop
+array-read-put-gone-records c = search needs
+
+put-gone-records-requires : tie.Need-put-gone-records-requires Inv-loop μ-loop
+put-gone-records-requires c κs = room (coming (c .before))
+
+add-at : tie.Need-add-at Inv-loop μ-loop
+add-at c = let s = coming (c .before .before .before .before) in omega (arith, to-go₁ s, s .fits, c .before .before .put-gone-records .ensures .count)
+
+loop-less : tie.Need-loop-less Inv-loop μ-loop
+loop-less c = omega arith
+
+loop-again : tie.Need-loop-again Inv-loop μ-loop
+loop-again c = (omega arith, put-at (coming (c .before .before .before .before)) (part-over _ _ _ _ _ (c .before .before .put-gone-records .ensures)))
+
+loop-less-2 : tie.Need-loop-less-2 Inv-loop μ-loop
+loop-less-2 c = omega arith
+
+loop-again-2 : tie.Need-loop-again-2 Inv-loop μ-loop
+loop-again-2 c =
+    let l = c .before .before .loop in
+    let a = c .before .before .before .before .args in
+    (omega arith, write-out (goneAt (a .t3)) (mark (a .t2)) (l .i) (omega arith) (c .if1 .left) (l .inv .1))
+
+same-length : tie.Need-same-length Inv-loop μ-loop
+same-length c = same-len (c .before .loop .inv .1)
+
+returns : tie.Need-returns Inv-loop μ-loop
+returns c =
+    let l = c .before .loop in
+    let a = c .before .before .before .args in
+    ended (l .inv .1) (append-nil _ ∙ bytes-end (goneAt (a .t3)) (mark (a .t2)) (l .i) (omega arith))
+
+pub put-marked-spec : {M : Type 1} → statement M
+put-marked-spec =
+    tie.close
+    (tie.spec
+    Inv-loop
+    μ-loop
+    loop-holds
+    add-i
+    array-read-if1
+    sub-put-gone-records
+    part-put-gone-records-start
+    part-put-gone-records-end
+    cast-t18
+    array-read-put-gone-records
+    put-gone-records-requires
+    add-at
+    loop-less
+    loop-again
+    loop-less-2
+    loop-again-2
+    same-length
+    returns)

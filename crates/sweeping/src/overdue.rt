@@ -1,0 +1,85 @@
+// Which places a sweep removes, as a mark for each place. One pass over the tables finds the places with slots to give back.
+ghost use mathlib.Core.Path.{_≡_};
+ghost use mathlib.Core.Bool.{Bool, false};
+ghost use mathlib.Core.List.{List, map};
+ghost use mathlib.Core.Option.{none};
+ghost use Prim.Native.Nat.{ℕ, _<_};
+ghost use lib.ListN.{length, getD};
+ghost use Rattle.rules.specs.Constants.{maxMembers, slotCount};
+ghost use Rattle.rules.specs.Group.{revoking, targeted};
+ghost use Rattle.rules.specs.Effects.{due, overduePlaces};
+ghost use Rattle.tables.specs.View.{viewLists};
+ghost use Rattle.group.specs.View.{view, viewSeat};
+ghost use Rattle.sweeping.specs.Marks.{Marks, marked};
+use group::Group;
+use group::MEMBERS;
+use group::Seat;
+use group::seats;
+
+// A place, as tables have it, as an index.
+fn index(p: u8) -> usize
+    ensures { λ r. ⌜ r ≡ p ⌝ }
+{
+    p as usize
+}
+
+// The places that hold some slot which they are to give back.
+fn revoking_places<'a>(holder: &'a [u8; 1024], waiting: &'a [bool; 1024]) -> [bool; MEMBERS]
+    requires { ⌜ (length (now holder) ≡ slotCount) × (length (now waiting) ≡ slotCount) ⌝ }
+    ensures { λ r. ⌜ ((ts : List ℕ) → length ts ≡ slotCount → Marks revoking (viewLists ts (now (holder .entry)) (now (waiting .entry))) r) ⌝ }
+{
+    let mut marks = [false; MEMBERS];
+    let mut next: usize = 0;
+    while next < 1024 {
+        let s = next;
+        next += 1;
+        if waiting[s] {
+            let p = index(holder[s]);
+            if p < MEMBERS {
+                marks[p] = true;
+            }
+        }
+    }
+    marks
+}
+
+// The places that are the target of some slot.
+pub fn target_places(target: &[u8; 1024]) -> [bool; MEMBERS]
+    requires { ⌜ length (now target) ≡ slotCount ⌝ }
+    ensures { λ r. ⌜ ((hs : List ℕ) (ws : List Bool) → length hs ≡ slotCount → length ws ≡ slotCount → Marks targeted (viewLists (now (target .entry)) hs ws) r) ⌝ }
+{
+    let mut marks = [false; MEMBERS];
+    let mut next: usize = 0;
+    while next < 1024 {
+        let p = index(target[next]);
+        next += 1;
+        if p < MEMBERS {
+            marks[p] = true;
+        }
+    }
+    marks
+}
+
+// The places whose members are due at a tick, by the marks of those with slots to give back.
+fn due_places(seats: [Seat; MEMBERS], revoking: [bool; MEMBERS], tick: u32) -> [bool; MEMBERS]
+    ensures { λ r. ⌜ ((p : ℕ) → p < maxMembers → getD r p false ≡ due tick (getD revoking p false) (getD (map viewSeat seats) p none)) ⌝ }
+{
+    let mut gone = [false; MEMBERS];
+    let mut i: usize = 0;
+    while i < MEMBERS {
+        let seat = seats[i];
+        gone[i] = seats::is_due(seat, revoking[i], tick);
+        i += 1;
+    }
+    gone
+}
+
+// The places that a sweep at a tick removes.
+pub fn overdue_places(g: Group, tick: u32) -> [bool; MEMBERS]
+    ensures { λ r. ⌜ marked r ≡ overduePlaces (view g) tick ⌝ }
+{
+    let tables = g.tables;
+    let revoking = revoking_places(&tables.holder, &tables.waiting);
+    let seats = g.seats;
+    due_places(seats, revoking, tick)
+}
