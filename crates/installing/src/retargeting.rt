@@ -1,0 +1,155 @@
+// The records of an install: 7 for each place whose set of target slots changes, then 6.
+// One pass over both targets marks the places at which they differ; the sets are gathered for those places only.
+ghost use mathlib.Core.Path.{_≡_};
+ghost use mathlib.Core.Bool.{false, _||_};
+ghost use Prim.Native.Nat.{ℕ, _+_, _*_, _≤_, _<_};
+ghost use lib.Dec.{eqb};
+ghost use lib.ListN.{length, getD};
+ghost use Rattle.rules.specs.Constants.{maxMembers, slotCount};
+ghost use Rattle.rules.specs.Group.{setM};
+ghost use Rattle.rules.specs.Records.{allBytes, targetIs};
+ghost use Rattle.rules.specs.Effects.{onlyIf, installRecords};
+ghost use Rattle.numbers.specs.Buffer.{Wrote};
+ghost use Rattle.slots.specs.Set.{slotsOf};
+ghost use Rattle.installing.specs.Targets.{unheld, recordOf, recordsOf, Marked};
+use group::MEMBERS;
+use rules::Place;
+use slots::SlotSet;
+
+// Whether the set of a place changes, and the set that it then has.
+struct Retarget {
+    changes: bool,
+    set: SlotSet,
+}
+
+// A mark for each place.
+pub struct Marks {
+    at: [bool; MEMBERS],
+}
+
+impl Marks {
+    // The marks with place p marked; a number that is no place marks nothing.
+    fn with(self, p: u8) -> Marks
+        ensures { λ r. ⌜ ((q : ℕ) → q < maxMembers → getD (r .at) q false ≡ (getD (self .at) q false || eqb q p)) ⌝ }
+    {
+        let mut marks = self;
+        let i = p as usize;
+        if i < MEMBERS {
+            marks.at[i] = true;
+            return marks;
+        }
+        marks
+    }
+}
+
+// The places at which two targets differ: a place that is not marked has the same set in both.
+pub fn changed_places<'a>(before: &'a [u8; 1024], after: &'a [u8; 1024]) -> Marks
+    requires { ⌜ (length (now before) ≡ slotCount) × (length (now after) ≡ slotCount) ⌝ }
+    ensures { λ r. ⌜ Marked (r .at) (now (before .entry)) (now (after .entry)) ⌝ }
+{
+    let mut marks = Marks {
+        at: [false; MEMBERS],
+    };
+    let mut s: usize = 0;
+    while s < 1024 {
+        let old = before[s];
+        let new = after[s];
+        s += 1;
+        if old != new {
+            marks = marks.with(old);
+            marks = marks.with(new);
+        }
+    }
+    marks
+}
+
+// What becomes of the set of place p; only the sets of a marked place are gathered.
+fn retarget_of<'a>(mark: bool, p: u8, before: &'a [u8; 1024], after: &'a [u8; 1024]) -> Retarget
+    requires { ⌜ (length (now before) ≡ slotCount) × (length (now after) ≡ slotCount) × (mark ≡ false → setM p (unheld (now before)) ≡ setM p (unheld (now after))) ⌝ }
+    ensures { λ r. ⌜ onlyIf (r .changes) (targetIs p (slotsOf (r .set .words))) ≡ recordOf (now (before .entry)) (now (after .entry)) p ⌝ }
+{
+    if mark {
+        let old = slots::gather(before, p);
+        let new = slots::gather(after, p);
+        let same = old.same_as(new);
+        return Retarget {
+            changes: !same,
+            set: new,
+        };
+    }
+    let none = SlotSet::empty();
+    Retarget {
+        changes: false,
+        set: none,
+    }
+}
+
+// How many bytes the records 7 take.
+fn targets_len<'a>(marks: Marks, before: &'a [u8; 1024], after: &'a [u8; 1024]) -> usize
+    requires { ⌜ Marked (marks .at) (now before) (now after) ⌝ }
+    ensures { λ r. ⌜ (r ≡ length (allBytes (recordsOf (now (before .entry)) (now (after .entry))))) × (r ≤ (2 * slotCount + 11) * maxMembers) ⌝ }
+{
+    let mut n: usize = 0;
+    let mut i: usize = 0;
+    while i < MEMBERS {
+        let mark = marks.at[i];
+        let p = i as u8;
+        let r = retarget_of(mark, p, before, after);
+        let set = r.set;
+        n += records::optional::target_len_if(r.changes, Place(p), set);
+        i += 1;
+    }
+    n
+}
+
+// How many bytes the records of an install take.
+pub fn install_len<'a>(
+    marks: Marks,
+    before: &'a [u8; 1024],
+    after: &'a [u8; 1024],
+    epoch: u32,
+) -> usize
+    requires { ⌜ Marked (marks .at) (now before) (now after) ⌝ }
+    ensures { λ r. ⌜ r ≡ length (allBytes (installRecords (unheld (now (before .entry))) (unheld (now (after .entry))) epoch)) ⌝ }
+{
+    let n = targets_len(marks, before, after);
+    n + records::kinds::target_epoch_len(epoch)
+}
+
+// Record 7 for each place whose set changes, rising.
+fn put_targets<'a>(
+    buf: &mut [u8],
+    marks: Marks,
+    before: &'a [u8; 1024],
+    after: &'a [u8; 1024],
+) -> usize
+    requires { ⌜ Marked (marks .at) (now before) (now after) × (length (allBytes (recordsOf (now before) (now after))) ≤ length (now buf)) ⌝ }
+    ensures { λ r. ⌜ Wrote (allBytes (recordsOf (now (before .entry)) (now (after .entry)))) (now (buf .entry)) (now (buf .exit)) r ⌝ }
+{
+    let mut at: usize = 0;
+    let mut i: usize = 0;
+    while i < MEMBERS {
+        let mark = marks.at[i];
+        let p = i as u8;
+        let r = retarget_of(mark, p, before, after);
+        let set = r.set;
+        at += records::optional::put_target_if(&mut buf[at..], r.changes, Place(p), set);
+        i += 1;
+    }
+    at
+}
+
+// Writes the records of an install to the start of the buffer, and leaves the rest of it alone. Returns how many bytes they take.
+pub fn put_install<'a>(
+    buf: &mut [u8],
+    marks: Marks,
+    before: &'a [u8; 1024],
+    after: &'a [u8; 1024],
+    epoch: u32,
+) -> usize
+    requires { ⌜ Marked (marks .at) (now before) (now after) × (length (allBytes (installRecords (unheld (now before)) (unheld (now after)) epoch)) ≤ length (now buf)) ⌝ }
+    ensures { λ r. ⌜ Wrote (allBytes (installRecords (unheld (now (before .entry))) (unheld (now (after .entry))) epoch)) (now (buf .entry)) (now (buf .exit)) r ⌝ }
+{
+    let at = put_targets(buf, marks, before, after);
+    at + records::kinds::put_target_epoch(&mut buf[at..], epoch)
+}
