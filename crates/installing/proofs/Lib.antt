@@ -1,2 +1,2 @@
-pub mod Targets
 pub mod Installs
+pub mod Targets

@@ -10,7 +10,7 @@ ghost use Rattle.rules.specs.Step.{step};
 ghost use Rattle.group.specs.View.{view};
 ghost use Rattle.events.specs.Outcomes.{took, carried};
 
-mod retargeting; // retargeting.rt: what an install changes of the targets
+mod retargeting; // retargeting.rt: the records of an install
 
 use events::Outcome;
 use events::refused;

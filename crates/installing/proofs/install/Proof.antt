@@ -36,7 +36,7 @@ unfolding view
 pending c = ne-eqb _ _ (c .if3 .left)
 
 refused-requires : tie.Need-refused-requires
-refused-requires c κs = search needs
+refused-requires c κs = tt
 
 returns : tie.Need-returns
 returns c =
@@ -45,10 +45,10 @@ returns c =
     took-refused (a .records .now) l (c .refused .ensures) ∙ sym (install-short (view (a .g)) (a .epoch) (a .entries .now) (a .records .now) l (ne-eqb _ _ (c .before .if1 .taken)))
 
 is-epoch-requires : tie.Need-is-epoch-requires
-is-epoch-requires c κs = search needs
+is-epoch-requires c κs = tt
 
 refused-requires-2 : tie.Need-refused-requires-2
-refused-requires-2 c κs = search needs
+refused-requires-2 c κs = tt
 
 returns-2 : tie.Need-returns-2
 returns-2 c =
@@ -58,7 +58,7 @@ returns-2 c =
     ∙ sym (install-stale (view (a .g)) (a .epoch) (a .entries .now) (a .records .now) l (whole (c .before .before .before)) (sym (told (c .before .before)) ∙ not-true _ (c .before .if2 .taken)))
 
 refused-requires-3 : tie.Need-refused-requires-3
-refused-requires-3 c κs = search needs
+refused-requires-3 c κs = tt
 
 returns-3 : tie.Need-returns-3
 unfolding view
@@ -69,13 +69,13 @@ returns-3 c =
     ∙ sym (install-already (view (a .g)) (a .epoch) (a .entries .now) (a .records .now) l (whole (c .before .before .before .before .before)) (current (c .before .before .before)) (eq-eqb _ _ (c .before .if3 .taken)))
 
 first-bad-requires : tie.Need-first-bad-requires
-first-bad-requires c κs = search needs
+first-bad-requires c κs = tt
 
 cast-t15 : tie.Need-cast-t15
 cast-t15 c = search needs
 
 refused-requires-4 : tie.Need-refused-requires-4
-refused-requires-4 c κs = search needs
+refused-requires-4 c κs = tt
 
 returns-4 : tie.Need-returns-4
 returns-4 c =
@@ -88,7 +88,7 @@ table-of-requires : tie.Need-table-of-requires
 table-of-requires c κs = c .before .before .before .before .before .before .if1 .left
 
 install-at-requires : tie.Need-install-at-requires
-install-at-requires c κs = search needs
+install-at-requires c κs = tt
 
 same-length : tie.Need-same-length
 same-length c = search needs

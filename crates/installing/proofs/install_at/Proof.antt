@@ -1,17 +1,15 @@
 -- The records are those of the rules' effect, since they tell of no holder; without room for them nothing changes, and with room the effect is carried out.
 -- Assumes nothing.
 use native.Mathlib.Omega.{arith}
-use mathlib.Core.Path.{_≡_, refl, sym, ap, _∙_, subst}
-use mathlib.Core.List.{List}
+use mathlib.Core.Path.{_≡_, refl, sym, _∙_}
 use lib.ListN.{length}
 use borrow.Author.Needs.{needs}
 use Rattle.rules.specs.Constants.{slotCount}
-use Rattle.rules.specs.Records.{Record, allBytes}
 use Rattle.rules.specs.Effects.{installRecords, installEffect}
-use Rattle.numbers.specs.Buffer.{Wrote}
+use Rattle.rules.specs.declared.Answer.the-variants.{Done}
 use Rattle.group.specs.View.{view}
 use Rattle.installing.specs.Targets.{unheld}
-use Rattle.events.proofs.Carrying.{no-room-records, carried-untold}
+use Rattle.events.proofs.Storing.{too-long, stored}
 use Rattle.installing.proofs.Installs.{install-records, install-group}
 use Rattle.installing.proofs.install_at.Statement.{statement}
 use Rattle.installing.proofs.install_at.Tie as tie
@@ -26,11 +24,6 @@ records-are c =
     let m : length (a .t2) ≡ slotCount = search needs in
     install-records (a .g) (a .t2) (k ∙ sym n) (l ∙ sym n) (m ∙ sym n)
 
--- for omega: their size
-size-is : (c : tie.Start)
-    → let a = c .args in length (allBytes (installRecords (unheld (a .g .tables .target)) (unheld (a .t2)) (a .g .epoch))) ≡ length (allBytes (installEffect (view (a .g)) (a .t2) .records))
-size-is c = ap (λ (rs : List Record). length (allBytes rs)) (records-are c)
-
 changed-places-requires : tie.Need-changed-places-requires
 changed-places-requires c κs = search needs
 
@@ -38,22 +31,23 @@ install-len-requires : tie.Need-install-len-requires
 install-len-requires c κs = c .before .before .changed-places .ensures
 
 refused-requires : tie.Need-refused-requires
-refused-requires c κs = search needs
+refused-requires c κs = tt
 
 returns : tie.Need-returns
 returns c =
     λ l.
-    let a = c .before .before .before .before .before .before .before .before .before .before .before .args in
-    no-room-records (installEffect (view (a .g)) (a .t2)) (a .records .now) l (omega (arith, c .before .before .install-len .ensures, size-is (c .before .before .before .before .before .before .before .before .before .before .before), c .before .if1 .taken)) (c .refused .ensures)
+    let x = c .before .before .before .before .before .before .before .before .before .before .before in
+    let a = x .args in
+    too-long (installEffect (view (a .g)) (a .t2)) (records-are x) (a .records .now) l (omega (arith, c .before .before .install-len .ensures, c .before .if1 .taken)) (c .refused .ensures)
 
 put-install-requires : tie.Need-put-install-requires
 put-install-requires c κs = (c .before .before .before .before .before .before .before .changed-places .ensures, omega (arith, c .before .before .before .before .install-len .ensures, c .before .before .before .if1 .left))
 
 retarget-requires : tie.Need-retarget-requires
-retarget-requires c κs = search needs
+retarget-requires c κs = tt
 
 with-target-requires : tie.Need-with-target-requires
-with-target-requires c κs = search needs
+with-target-requires c κs = tt
 
 same-length : tie.Need-same-length
 same-length c = search needs
@@ -65,10 +59,11 @@ returns-2 c =
     let x = c .before .before .before .before .before .before .before .before .before .before .before .before .before .before .before .before .before .before in
     let a = x .args in
     let put = c .before .before .before .before .put-install in
-    carried-untold (installEffect (view (a .g)) (a .t2)) (a .records .now) l (view (a .g)) (c .with-target .result) refl
-    (omega (arith, c .before .before .before .before .before .before .before .before .before .install-len .ensures, size-is x, c .before .before .before .before .before .before .before .before .if1 .left))
+    stored (installEffect (view (a .g)) (a .t2)) (records-are x) (a .records .now) l (view (a .g)) (record { group = c .with-target .result; answer = Done; written = put .result }) refl
+    (omega (arith, c .before .before .before .before .before .before .before .before .before .install-len .ensures, c .before .before .before .before .before .before .before .before .if1 .left))
+    refl
     (install-group (a .g) (a .t2) (c .with-target .result) (c .before .retarget .ensures) (c .with-target .ensures))
-    (subst (λ (rs : List Record). Wrote (allBytes rs) (a .records .now) (put .last .0) (put .result)) (records-are x) (put .ensures))
+    (put .ensures)
 
 pub install-at-spec : {M : Type 1} → statement M
 install-at-spec =

@@ -1,6 +1,5 @@
 -- The records 7 and record 6, one after another. Assumes nothing.
 use native.Mathlib.Omega.{arith}
-use borrow.Author.Needs.{needs}
 use Rattle.installing.specs.Targets.{unheld}
 use Rattle.installing.proofs.Installs.{install-length}
 use Rattle.installing.proofs.retargeting.install_len.Statement.{statement}
@@ -10,7 +9,7 @@ targets-len-requires : tie.Need-targets-len-requires
 targets-len-requires c κs = c .pre
 
 target-epoch-len-requires : tie.Need-target-epoch-len-requires
-target-epoch-len-requires c κs = search needs
+target-epoch-len-requires c κs = tt
 
 add-result : tie.Need-add-result
 add-result c = omega arith

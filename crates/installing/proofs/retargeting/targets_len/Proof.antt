@@ -37,7 +37,7 @@ retarget-of-requires c κs =
     (x .pre .whole-before, x .pre .whole-after, x .pre .unmarked (c .before .before .loop .i) (omega arith))
 
 target-len-if-requires : tie.Need-target-len-if-requires Inv-loop μ-loop
-target-len-if-requires c κs = search needs
+target-len-if-requires c κs = tt
 
 add-n : tie.Need-add-n Inv-loop μ-loop
 add-n c = omega arith

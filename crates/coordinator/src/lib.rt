@@ -1,0 +1,44 @@
+// list then hold, is `step` of the rules, on all inputs: the answer or the refusal, the whole group, every byte. A refusal changes nothing anywhere.
+// With 4,096 bytes and 1,024 entries lent, 1003 is never given (`NeverRoom` of the rules).
+ghost use mathlib.Core.Path.{_≡_};
+ghost use mathlib.Core.List.{List};
+ghost use Prim.Native.Nat.{ℕ};
+ghost use Rattle.rules.specs.Group.{fresh};
+ghost use Rattle.rules.specs.Event as E;
+ghost use Rattle.rules.specs.Step.{step};
+ghost use Rattle.rules.specs.Ledger.{SingleHolder};
+ghost use Rattle.rules.specs.Rounds.{ThreeRounds};
+ghost use Rattle.rules.specs.Theorems.{Theorems};
+ghost use Rattle.group.specs.View.{view};
+ghost use Rattle.events.specs.Outcomes.{took};
+ghost use Rattle.coordinator.specs.Runs.{RunsSingleHolder, RunsSettle};
+use events::Outcome;
+use group::Group;
+
+// A group with no topics and no members, made at a tick. Demand 3 holds of every run from it: no slot is ever with two members, and three rounds of
+pub fn fresh(tick: u32) -> Group
+    ensures { λ r. ⌜ (view r ≡ fresh tick) × SingleHolder (view r) × ThreeRounds (view r) × RunsSingleHolder r × RunsSettle r × Theorems ⌝ }
+{
+    group::fresh(tick)
+}
+
+// Removes each member that has not been heard for the session timeout, or has slots to give back for longer than its rebalance timeout.
+pub fn sweep(g: Group, tick: u32, records: &mut [u8]) -> Outcome
+    ensures { λ r. ⌜ ((l : List ℕ) → took r (now (records .exit)) l ≡ step (view g) (E.sweep tick) (now (records .entry)) l) ⌝ }
+{
+    sweeping::sweep(g, tick, records)
+}
+
+// Makes a topic, or raises its count.
+pub fn topic(g: Group, number: u32, id: [u8; 16], count: u32, records: &mut [u8]) -> Outcome
+    ensures { λ r. ⌜ ((l : List ℕ) → took r (now (records .exit)) l ≡ step (view g) (E.topic number id count) (now (records .entry)) l) ⌝ }
+{
+    topics::topic(g, number, id, count, records)
+}
+
+// Installs a target: for each slot a place, or 255 for none.
+pub fn install(g: Group, epoch: i32, entries: &[u8], records: &mut [u8]) -> Outcome
+    ensures { λ r. ⌜ ((l : List ℕ) → took r (now (records .exit)) l ≡ step (view g) (E.install epoch (now (entries .entry))) (now (records .entry)) l) ⌝ }
+{
+    installing::install(g, epoch, entries, records)
+}
