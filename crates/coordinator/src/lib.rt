@@ -1,3 +1,4 @@
+// The coordinator of one consumer group: a fresh group, heartbeats, sweeps, topics and installs. What each event function hands back, and what the buffer and the
 // list then hold, is `step` of the rules, on all inputs: the answer or the refusal, the whole group, every byte. A refusal changes nothing anywhere.
 // With 4,096 bytes and 1,024 entries lent, 1003 is never given (`NeverRoom` of the rules).
 ghost use mathlib.Core.Path.{_≡_};
@@ -12,10 +13,15 @@ ghost use Rattle.rules.specs.Theorems.{Theorems};
 ghost use Rattle.group.specs.View.{view};
 ghost use Rattle.events.specs.Outcomes.{took};
 ghost use Rattle.coordinator.specs.Runs.{RunsSingleHolder, RunsSettle};
+
+mod heartbeats; // heartbeats.rt: a heartbeat taken as what its epoch says
+
 use events::Outcome;
 use group::Group;
+pub use heartbeats::heartbeat;
 
 // A group with no topics and no members, made at a tick. Demand 3 holds of every run from it: no slot is ever with two members, and three rounds of
+// heartbeats settle every member on the target in force.
 pub fn fresh(tick: u32) -> Group
     ensures { λ r. ⌜ (view r ≡ fresh tick) × SingleHolder (view r) × ThreeRounds (view r) × RunsSingleHolder r × RunsSettle r × Theorems ⌝ }
 {

@@ -3,3 +3,4 @@ pub mod Kinds
 pub mod Members
 pub mod Searches
 pub mod View
+pub mod Transitions

@@ -10,6 +10,7 @@ pub mod changes; // changes.rt: the group with a part of it replaced
 pub mod entries; // entries.rt: the entries of an install, tried against topics and members
 pub mod epochs; // epochs.rt: group epochs and their largest value
 pub mod ids; // ids.rt: IDs compared
+pub mod member; // member.rt: the member of 01 with its sets, and its transitions
 pub mod requests; // requests.rt: the timeout and the list of a heartbeat
 pub mod seats; // seats.rt: places and the members at them
 pub mod ticks; // ticks.rt: elapsed time

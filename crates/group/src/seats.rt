@@ -7,7 +7,7 @@ ghost use Rattle.rules.specs.Basics.{any, find};
 ghost use Rattle.rules.specs.Group.{isMember, known, placeOf, vacant, lowestFree, subscribes};
 ghost use Rattle.rules.specs.Effects.{due};
 ghost use Rattle.group.specs.View.{view, viewSeat};
-ghost use Rattle.group.specs.Members.{joinedAs, withEpoch, withStored, withHeard, withRevoked};
+ghost use Rattle.group.specs.Members.{joinedAs};
 ghost use Rattle.group.specs.Searches.{Finds};
 use crate::Found;
 use crate::Group;
@@ -46,43 +46,6 @@ impl Seat {
             revoked_at: tick,
             used: true,
         }
-    }
-
-    // The member at another epoch.
-    pub fn advance(self, epoch: u32) -> Seat
-        ensures { λ r. ⌜ r ≡ withEpoch self epoch ⌝ }
-    {
-        let mut next = self;
-        next.epoch = epoch;
-        next
-    }
-
-    // The member with what a heartbeat stores.
-    pub fn store(self, subscription: u16, timeout: u32) -> Seat
-        ensures { λ r. ⌜ r ≡ withStored self subscription timeout ⌝ }
-    {
-        let mut next = self;
-        next.subscription = subscription;
-        next.timeout = timeout;
-        next
-    }
-
-    // The member heard at a tick.
-    pub fn hear(self, tick: u32) -> Seat
-        ensures { λ r. ⌜ r ≡ withHeard self tick ⌝ }
-    {
-        let mut next = self;
-        next.heard = tick;
-        next
-    }
-
-    // The member asked at a tick to give slots back.
-    pub fn revoke(self, tick: u32) -> Seat
-        ensures { λ r. ⌜ r ≡ withRevoked self tick ⌝ }
-    {
-        let mut next = self;
-        next.revoked_at = tick;
-        next
     }
 }
 

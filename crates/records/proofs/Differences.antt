@@ -8,7 +8,7 @@ use native.Mathlib.Omega.{arith}
 use lib.ListN.{length, length-append}
 use Rattle.rules.specs.Constants.{slotCount}
 use Rattle.rules.specs.Records.{number, differences, setBytes}
-use Rattle.numbers.proofs.Number.{number-le}
+use Rattle.rules.proofs.Number.{number-le}
 use Rattle.numbers.proofs.Writing.{Writing, cut}
 use Rattle.slots.specs.Set.{keep, select, has, slotsOf}
 use Rattle.slots.proofs.Selecting.{select-next, select-ext}

@@ -7,7 +7,7 @@ use lib.Dec.{lit<}
 use lib.ListN.{length, length-append}
 use Rattle.rules.specs.Records.{groupEpoch, topicIs, memberIs, memberGone, targetEpoch, targetIs, currentIs, currentGone, number, setBytes, bytesOf}
 use Rattle.numbers.specs.Buffer.{flat}
-use Rattle.numbers.proofs.Number.{number-small}
+use Rattle.rules.proofs.Number.{number-small}
 use Rattle.records.specs.Fields.{numbers}
 
 -- ---- each kind as its fields

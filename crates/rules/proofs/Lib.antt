@@ -1,4 +1,5 @@
 pub mod Lists
+pub mod Number
 pub mod ReadBack
 pub mod SingleHolder
 pub mod Moves

@@ -1,9 +1,4 @@
 // What the coordinator says, as the values that its functions return. The rules are in specs/.
-ghost use mathlib.Core.Path.{_≡_};
-ghost use Rattle.rules.specs.Group.{fresh};
-ghost use Rattle.rules.specs.Ledger.{SingleHolder};
-ghost use Rattle.rules.specs.Rounds.{ThreeRounds};
-ghost use Rattle.rules.specs.Theorems.{Theorems};
 
 // A partition of a topic: partition p of topic t is slot 64 t + p.
 pub struct Slot(pub u16);
@@ -38,11 +33,4 @@ pub enum Answer {
     Swept(u32),
     Done,
     Refused(Refusal),
-}
-
-// The tick of a fresh group. Its contract holds demand 3 and the other theorems in the source, until the function that makes a group does.
-pub fn fresh_tick(tick: u32) -> u32
-    ensures { λ r. ⌜ (r ≡ tick) × SingleHolder (fresh tick) × ThreeRounds (fresh tick) × Theorems ⌝ }
-{
-    tick
 }

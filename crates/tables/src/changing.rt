@@ -1,13 +1,12 @@
 // What becomes of the tables. Only the slots that are near the place change, so that one loop from one such slot to the next serves every change.
 ghost use mathlib.Core.Path.{_≡_};
 ghost use mathlib.Core.List.{map};
-ghost use Prim.Native.Nat.{ℕ, _+_, _<_};
+ghost use Prim.Native.Nat.{_+_, _<_};
 ghost use lib.Dec.{eqb};
 ghost use Rattle.rules.specs.Basics.{if_then_else_};
 ghost use Rattle.rules.specs.Constants.{noPlace};
-ghost use Rattle.rules.specs.Effects.{vacated, freed, revoked, claimed, advanced, retargeted};
+ghost use Rattle.rules.specs.Effects.{vacated, freed, revoked, claimed, retargeted};
 ghost use Rattle.tables.specs.View.{viewTables, viewLists};
-ghost use Rattle.tables.specs.Advances.{ownedOf, Advances};
 ghost use Rattle.tables.specs.Changes.{viewEntry, movedBy, changeBy};
 use crate::Tables;
 use crate::advancing::Advance;
@@ -174,26 +173,12 @@ fn moved(tables: Tables, step: Advance, p: u8) -> Tables
     tables
 }
 
-// The tables after steps 2 and 3, and what the steps came to.
-pub struct Advanced {
-    pub tables: Tables,
-    pub step: Advance,
-}
-
 impl Tables {
-    // Steps 2 and 3 of an ordinary heartbeat of the member at place p. The list is looked at only if `given`.
-    pub fn advance(self, p: Place, given: bool, owned: &[u16]) -> Advanced
-        requires { ⌜ p .0 < noPlace ⌝ }
-        ensures { λ r. ⌜ (viewTables (r .tables) ≡ advanced (p .0) (viewTables self) (ownedOf given (now (owned .entry))))
-            × Advances (p .0) (viewTables self) (ownedOf given (now (owned .entry))) (r .step) ⌝ }
+    // The tables after what steps 2 and 3 of place p came to; they are written only if A or P changed.
+    pub fn follow(self, p: Place, step: Advance) -> Tables
+        ensures { λ r. ⌜ viewTables r ≡ (if step .changed then map (movedBy (step .frees) (step .revokes) (p .0)) (viewTables self) else viewTables self) ⌝ }
     {
-        let sets = self.gather(p);
-        let step = sets.advance(given, owned);
-        let after = moved(self, step, p.0);
-        Advanced {
-            tables: after,
-            step: step,
-        }
+        moved(self, step, p.0)
     }
 
     // The place p holds nothing and is nobody's target; all other entries stay.

@@ -7,7 +7,6 @@ mod searching;
 mod testing;
 
 pub use advancing::Advance;
-pub use changing::Advanced;
 pub use gathering::PlaceSets;
 
 // A slot's target and its holder are places, or 255 for none. A held slot that is `waiting` is to be given back.

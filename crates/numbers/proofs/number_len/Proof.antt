@@ -5,7 +5,7 @@ use Prim.Native.Nat.{_+_, _/_}
 use native.Mathlib.Omega.{arith}
 use lib.ListN.{length}
 use Rattle.rules.specs.Records.{number}
-use Rattle.numbers.proofs.Number.{number-small, number-more, number-five, number-pos}
+use Rattle.rules.proofs.Number.{number-small, number-more, number-five, number-pos}
 use Rattle.numbers.proofs.number_len.Statement.{statement}
 use Rattle.numbers.proofs.number_len.Tie as tie
 

@@ -5,7 +5,7 @@ use mathlib.Core.List.{[], _∷_, append-nil}
 use native.Mathlib.Omega.{arith}
 use lib.ListN.{length-set}
 use Rattle.rules.specs.Records.{number}
-use Rattle.numbers.proofs.Number.{number-small, number-more, number-pos}
+use Rattle.rules.proofs.Number.{number-small, number-more, number-pos}
 use Rattle.numbers.proofs.Writing.{Writing, begin, to-go₁, same-len, put-one, ended}
 use Rattle.numbers.proofs.put_number.Statement.{statement}
 use Rattle.numbers.proofs.put_number.Tie as tie

@@ -1,0 +1,3 @@
+pub mod Freeing
+pub mod OrdinaryRows
+pub mod Stepping

@@ -1,0 +1,69 @@
+-- The plan is the rules', so that its effect is; row 1002 is tried on what it raises. Assumes nothing.
+use mathlib.Core.Path.{sym, ap, _∙_}
+use borrow.Author.Needs.{needs}
+use Rattle.rules.specs.Event.{Request}
+use Rattle.rules.specs.Group.{Group}
+use Rattle.rules.specs.Effects.{Effect}
+use Rattle.group.specs.View.{view}
+use Rattle.events.specs.Outcomes.{requestOf, carried}
+use Rattle.events.proofs.Carrying.{took-refused}
+use Rattle.ordinary.proofs.OrdinaryRows.{row-end, row-room, planned-is}
+use Rattle.ordinary.proofs.ordinary_at.Statement.{statement}
+use Rattle.ordinary.proofs.ordinary_at.Tie as tie
+
+abbrev group : tie.Start → Group
+group c = view (c .args .g)
+
+abbrev request : tie.Start → Request
+request c = requestOf (c .args .b) (c .args .owned .now)
+
+make-plan-requires : tie.Need-make-plan-requires
+make-plan-requires c κs = search needs
+
+past-end-requires : tie.Need-past-end-requires
+past-end-requires c κs = tt
+
+refused-requires : tie.Need-refused-requires
+refused-requires c κs = tt
+
+returns : tie.Need-returns
+unfolding view
+returns c =
+    let x = c .before .before .before .before .before .before .before in
+    let a = x .args in
+    let k = c .before .before .before .make-plan in
+    took-refused (a .records .now) (a .list .now) (c .refused .ensures)
+    ∙ sym (row-end (group x) (request x) (k .result) (k .ensures) (a .records .now) (a .list .now) (sym (c .before .before .past-end .ensures) ∙ c .before .if1 .taken))
+
+carry-requires : tie.Need-carry-requires
+carry-requires c κs = tt
+
+same-length : tie.Need-same-length
+same-length c = search needs
+
+same-length-2 : tie.Need-same-length-2
+same-length-2 c = search needs
+
+returns-2 : tie.Need-returns-2
+unfolding view requestOf
+returns-2 c =
+    let x = c .before .before .before .before .before .before .before .before .before .before .before .before .before in
+    let a = x .args in
+    let k = c .before .before .before .before .before .before .before .before .before .make-plan in
+    let open-end = sym (c .before .before .before .before .before .before .before .before .past-end .ensures) ∙ c .before .before .before .before .before .before .before .if1 .left in
+    c .before .before .before .before .carry .ensures
+    ∙ ap (λ (f : Effect). carried (group x) f (a .records .now) (a .list .now)) (planned-is (group x) (request x) (k .result) (k .ensures) (x .pre .0) open-end)
+    ∙ sym (row-room (group x) (request x) (k .result) (k .ensures) (a .records .now) (a .list .now) open-end)
+
+pub ordinary-at-spec : {M : Type 1} → statement M
+ordinary-at-spec =
+    tie.close
+    (tie.spec
+    make-plan-requires
+    past-end-requires
+    refused-requires
+    returns
+    carry-requires
+    same-length
+    same-length-2
+    returns-2)

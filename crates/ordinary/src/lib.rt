@@ -1,0 +1,154 @@
+// The ordinary heartbeat: of a known member, at its own epoch.
+ghost use mathlib.Core.Path.{_≡_};
+ghost use mathlib.Core.List.{[]};
+ghost use Prim.Native.Nat.{_<_};
+ghost use Rattle.rules.specs.Basics.{any, default};
+ghost use Rattle.rules.specs.Constants.{maxMembers};
+ghost use Rattle.rules.specs.Group.{memberAt, placeOf};
+ghost use Rattle.rules.specs.Refusals.{ordinary, notHeldBy};
+ghost use Rattle.tables.specs.Advances.{ownedOf};
+ghost use Rattle.group.specs.View.{view, seated};
+ghost use Rattle.events.specs.Outcomes.{took, requestOf, carried, stepAs};
+ghost use Rattle.ordinary.specs.Plans.{planned, ordinaryAt};
+
+mod plan; // plan.rt: what the heartbeat comes to, decided before anything is written
+
+use crate::plan::Plan;
+use events::INTERVAL;
+use events::Outcome;
+use events::Request;
+use events::refused;
+use events::rows;
+use group::Found;
+use group::Group;
+use group::Seat;
+use group::changes;
+use group::epochs;
+use group::seats;
+use group::ticks;
+use records::batches;
+use rules::Answer;
+use rules::Assignment;
+use rules::Place;
+use rules::Refusal;
+
+// The second row 42: whether a list is given that has a slot which the place does not hold.
+fn lists_unheld(g: Group, p: Place, given: bool, owned: &[u16]) -> bool
+    ensures { λ r. ⌜ r ≡ any (notHeldBy (view g) (p .0)) (default [] (ownedOf given (now (owned .entry)))) ⌝ }
+{
+    if given {
+        let tables = g.tables;
+        return tables.lists_unheld(p, owned);
+    }
+    false
+}
+
+// Carries a plan out if there is room for its records and its slots; otherwise nothing changes.
+fn carry(g: Group, p: Place, tick: u32, k: Plan, records: &mut [u8], list: &mut [u16]) -> Outcome
+    ensures { λ r. ⌜ took r (now (records .exit)) (now (list .exit)) ≡ carried (view g) (planned (view g) (p .0) tick k) (now (records .entry)) (now (list .entry)) ⌝ }
+{
+    let m = k.member;
+    let a = m.assigned;
+    let q = m.revoking;
+    let id = m.id;
+    let size = batches::ordinary_records_len(
+        p,
+        k.updates,
+        id,
+        m.timeout,
+        m.subscription,
+        k.raises,
+        k.epoch,
+        k.moves,
+        m.epoch,
+        a,
+        q,
+    );
+    if records.len() < size {
+        return refused(g, Refusal::Room);
+    }
+    let count = a.count();
+    if list.len() < count as usize {
+        return refused(g, Refusal::Room);
+    }
+    let written = batches::put_ordinary_records(
+        records,
+        p,
+        k.updates,
+        id,
+        m.timeout,
+        m.subscription,
+        k.raises,
+        k.epoch,
+        k.moves,
+        m.epoch,
+        a,
+        q,
+    );
+    slots::list_slots(list, a);
+    let seat = m.seat();
+    let tables = k.tables;
+    let next = changes::with_seat(g, p, seat, tables, k.epoch, tick);
+    Outcome {
+        group: next,
+        answer: Answer::Assigned(Assignment {
+            epoch: m.epoch,
+            interval: INTERVAL,
+            count: count,
+        }),
+        written: written,
+    }
+}
+
+// An ordinary heartbeat of the member of the seat at place p, past the rows that only read.
+fn ordinary_at(
+    g: Group,
+    seat: Seat,
+    p: Place,
+    b: Request,
+    owned: &[u16],
+    records: &mut [u8],
+    list: &mut [u16],
+) -> Outcome
+    requires { ⌜ (placeOf (view g) (b .id) ≡ p .0) × (memberAt (view g) (p .0) ≡ seated seat) × (seat .id ≡ b .id) × (p .0 < maxMembers) ⌝ }
+    ensures { λ r. ⌜ took r (now (records .exit)) (now (list .exit)) ≡ ordinaryAt (view g) (requestOf b (now (owned .entry))) (now (records .entry)) (now (list .entry)) ⌝ }
+{
+    let k = plan::make_plan(g, seat, p, b, owned);
+    if epochs::past_end(k.raises, g.epoch) {
+        return refused(g, Refusal::EpochEnd);
+    }
+    carry(g, p, b.tick, k, records, list)
+}
+
+// A heartbeat taken as an ordinary one at the epoch e. The list of owned slots counts only where the request has one.
+pub fn ordinary(
+    g: Group,
+    b: Request,
+    e: u32,
+    owned: &[u16],
+    records: &mut [u8],
+    list: &mut [u16],
+) -> Outcome
+    ensures { λ r. ⌜ took r (now (records .exit)) (now (list .exit)) ≡ stepAs (ordinary e) (view g) (requestOf b (now (owned .entry))) (now (records .entry)) (now (list .entry)) ⌝ }
+{
+    if ticks::goes_back(g.tick, b.tick) {
+        return refused(g, Refusal::Clock);
+    }
+    if rows::is_malformed(b, owned) {
+        return refused(g, Refusal::InvalidRequest);
+    }
+    let id = b.id;
+    let found = seats::find_member(g, id);
+    let Found::At(p) = found else {
+        return refused(g, Refusal::UnknownMemberId);
+    };
+    let places = g.seats;
+    let seat = seats::seat_at(places, p);
+    if e != seat.epoch {
+        return refused(g, Refusal::FencedMemberEpoch);
+    }
+    if lists_unheld(g, p, b.has_list, owned) {
+        return refused(g, Refusal::InvalidRequest);
+    }
+    ordinary_at(g, seat, p, b, owned, records, list)
+}
