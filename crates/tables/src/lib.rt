@@ -10,6 +10,7 @@ pub use advancing::Advance;
 pub use gathering::PlaceSets;
 
 // A slot's target and its holder are places, or 255 for none. A held slot that is `waiting` is to be given back.
+#[repr(C)]
 pub struct Tables {
     pub target: [u8; 1024],
     pub holder: [u8; 1024],

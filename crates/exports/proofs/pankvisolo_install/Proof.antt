@@ -1,0 +1,26 @@
+-- `exports::pankvisolo_install` meets its contract: it hands on what `coordinator::install` answers, as plain numbers.
+use mathlib.Core.Path.{_≡_, ap, _∙_}
+use Rattle.exports.specs.Replies.{reportOf}
+use mir.Facts.{toZ-ofZ}
+use borrow.Author.Needs.{needs}
+use Rattle.exports.proofs.pankvisolo_install.Statement.{statement}
+use Rattle.exports.proofs.pankvisolo_install.Tie as tie
+
+install-requires : tie.Need-install-requires
+install-requires c κs = tt
+
+handed-back-requires : tie.Need-handed-back-requires
+handed-back-requires c κs = tt
+
+same-length : tie.Need-same-length
+same-length c = search needs
+
+returns : tie.Need-returns
+returns c =
+    λ l.
+    c .handed-back .ensures _ l
+    ∙ ap reportOf (rw (toZ-ofZ (c .before .before .before .before .before .before .before .fits .epoch)) at (c .before .before .before .install .ensures l))
+
+pub pankvisolo-install-spec : {M : Type 1} → statement M
+pankvisolo-install-spec =
+    tie.close (tie.spec install-requires handed-back-requires same-length returns)
