@@ -3,7 +3,7 @@
 use Prim.Native.Nat.{ℕ, suc, _+_, _-_, _≤_, _<_}
 use native.Mathlib.Omega.{arith}
 use native.Mathlib.Numerals.{add-one}
-use mathlib.Core.Path.{_≡_, refl, sym, ap, _∙_}
+use mathlib.Core.Path.{_≡_, sym, ap, _∙_}
 use mathlib.Core.Bool.{Bool, true, false, not}
 use mathlib.Core.List.{List, [], _∷_, _++_}
 use lib.IntN.{ℤ}
@@ -65,15 +65,6 @@ module _ (before after : List SlotState) (e : ℕ) where
   install-length = ap length install-parts ∙ flat-length installParts
 
 -- ---- the rows
-
--- a test that the code negates
-pub not-true : (b : Bool) → not b ≡ true → b ≡ false
-not-true true h = sym h
-not-true false h = refl
-
-pub not-false : (b : Bool) → not b ≡ false → b ≡ true
-not-false true h = refl
-not-false false h = sym h
 
 module _ (g : Group) (z : ℤ) (entries b l : List ℕ) where
   pub install-short : eqb (length entries) slotCount ≡ false → step g (install z entries) b l ≡ denied (BadTarget (slotNumber noSlot)) g b l

@@ -17,7 +17,7 @@ use Rattle.rules.specs.Records.{Record, targetIs}
 use Rattle.rules.specs.Effects.{onlyIf, targetRecord}
 use Rattle.slots.specs.Set.{has, slotsOf}
 use Rattle.slots.specs.declared.SlotSet.{SlotSet}
-use Rattle.slots.proofs.Comparing.{same-refl}
+use Rattle.rules.proofs.Lists.{same-refl}
 use Rattle.tables.specs.View.{viewLists}
 use Rattle.tables.proofs.Viewing.{getD-any}
 use Rattle.tables.proofs.Listing.{picks-list}

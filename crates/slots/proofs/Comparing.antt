@@ -3,20 +3,17 @@
 use Prim.Native.Nat.{ℕ, zero, suc, _+_, _≤_, _<_}
 use native.Mathlib.Omega.{arith}
 use native.Mathlib.Decide.{ℕ-discrete}
-use mathlib.Core.Path.{_≡_, refl, sym, ap, ap₂, _∙_}
+use mathlib.Core.Path.{_≡_, refl, sym, ap, _∙_}
 use mathlib.Core.Bool.{Bool, true, false, _&&_, true≢false}
-use mathlib.Core.List.{List, [], _∷_}
+use mathlib.Core.List.{List, _∷_}
 use lib.Dec.{eqb}
 use lib.ListN.{length}
-use borrow.Author.Tests.{eq-eqb, ne-eqb}
+use borrow.Author.Tests.{ne-eqb}
 use Rattle.rules.specs.Basics.{same}
 use Rattle.slots.specs.Set.{has, keep, select, slotsOf, TellsSubset}
+use Rattle.rules.proofs.Lists.{same-refl}
 use Rattle.slots.proofs.Words.{in-range}
 use Rattle.slots.proofs.Selecting.{slots-are}
-
-pub same-refl : (l : List ℕ) → same l l ≡ true
-same-refl [] = refl
-same-refl (x ∷ l) = ap₂ _&&_ (eq-eqb x x refl) (same-refl l)
 
 ahead : (g : ℕ → Bool) (n b x : ℕ) (xs : List ℕ) → x < b → same (x ∷ xs) (select g b n) ≡ false
 unfolding select

@@ -17,7 +17,8 @@ use Rattle.rules.specs.Effects.{waits, strays, advanced, frees, freed, afterFre
 use Rattle.slots.specs.Set.{has, slotsOf, TellsEmpty}
 use Rattle.slots.specs.declared.SlotSet.{SlotSet}
 use Rattle.slots.proofs.Words.{has-past, in-range, less-some}
-use Rattle.slots.proofs.Comparing.{unlike, same-refl}
+use Rattle.rules.proofs.Lists.{same-refl}
+use Rattle.slots.proofs.Comparing.{unlike}
 use Rattle.tables.specs.Places.{claimable}
 use Rattle.tables.specs.Gathers.{Picks}
 use Rattle.tables.specs.Advances.{ownedOf, Advances}

@@ -15,7 +15,8 @@ use Rattle.rules.specs.Effects.{installEffect}
 use Rattle.group.specs.View.{view}
 use Rattle.events.specs.Outcomes.{carried}
 use Rattle.events.proofs.Carrying.{took-refused}
-use Rattle.installing.proofs.Installs.{not-true, not-false, install-short, install-stale, install-already, install-bad, install-step}
+use Rattle.rules.proofs.Lists.{not-is-false, not-is-true}
+use Rattle.installing.proofs.Installs.{install-short, install-stale, install-already, install-bad, install-step}
 use Rattle.installing.proofs.install.Statement.{statement}
 use Rattle.installing.proofs.install.Tie as tie
 
@@ -29,7 +30,7 @@ unfolding view
 told c = let a = c .before .before .before .before .args in c .is-epoch .ensures ∙ ap (λ (z : ℤ). isEpoch z (a .g .epoch)) (toZ-ofZ (c .before .before .before .before .fits .epoch))
 
 current : (c : tie.Else2) → let a = c .before .before .before .before .before .args in isEpoch (a .epoch) (view (a .g) .epoch) ≡ true
-current c = sym (told (c .before)) ∙ not-false _ (c .if2 .left)
+current c = sym (told (c .before)) ∙ not-is-false _ (c .if2 .left)
 
 pending : (c : tie.Else3) → let a = c .before .before .before .before .before .before .before .args in eqb (view (a .g) .targetEpoch) (view (a .g) .epoch) ≡ false
 unfolding view
@@ -55,7 +56,7 @@ returns-2 c =
     λ l.
     let a = c .before .before .before .before .before .before .args in
     took-refused (a .records .now) l (c .refused2 .ensures)
-    ∙ sym (install-stale (view (a .g)) (a .epoch) (a .entries .now) (a .records .now) l (whole (c .before .before .before)) (sym (told (c .before .before)) ∙ not-true _ (c .before .if2 .taken)))
+    ∙ sym (install-stale (view (a .g)) (a .epoch) (a .entries .now) (a .records .now) l (whole (c .before .before .before)) (sym (told (c .before .before)) ∙ not-is-true _ (c .before .if2 .taken)))
 
 refused-requires-3 : tie.Need-refused-requires-3
 refused-requires-3 c κs = tt
