@@ -6,7 +6,7 @@ use std::io::{self, IsTerminal, Write};
 use std::process::ExitCode;
 
 // The coordinator that runs the events; anything with the names of shared/API.md will do.
-use plain as coordinator;
+use pankvisolo as coordinator;
 
 mod answer;
 mod arguments;

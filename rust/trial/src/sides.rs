@@ -5,10 +5,11 @@
 use crate::coordinator::coordinate;
 use crate::data::{Answer, Beat, Id, Member, Reply, Topic};
 
+coordinate!(pankvisolo);
 coordinate!(plain);
 
 /// The coordinator under trial.
-pub type Subject = plain::Group;
+pub type Subject = pankvisolo::Group;
 
 /// The one it is compared with; events are made with an eye on this one.
 pub type Reference = plain::Group;

@@ -1,0 +1,148 @@
+//! The group.
+
+use crate::answers;
+use crate::ffi;
+use crate::protocol::{Heartbeat, Id, Member, Reply, Topic};
+
+/// A consumer group: its topics, its members, who holds which slot and who is to. Partition p of
+/// topic t is slot 64t + p.
+///
+/// It is one plain value of some 4,600 bytes and has nothing on the heap.
+#[derive(Clone)]
+pub struct Group {
+    pub(crate) value: ffi::Group,
+}
+
+/// Events.
+impl Group {
+    /// A group with no topics and no members, made at a tick.
+    pub fn new(tick: u32) -> Group {
+        Group {
+            value: ffi::fresh(tick),
+        }
+    }
+
+    /// A fresh group with other epochs, for tests of their end, which no test reaches by events.
+    ///
+    /// # Panics
+    ///
+    /// Where one of the epochs is negative: no group has such an epoch.
+    #[cfg(feature = "testing")]
+    pub fn at_epochs(tick: u32, epoch: i32, target_epoch: i32) -> Group {
+        let stored = |epoch| u32::try_from(epoch).expect("a group's epoch is never negative");
+        let mut group = Group::new(tick);
+        group.value.epoch = stored(epoch);
+        group.value.target_epoch = stored(target_epoch);
+        group
+    }
+
+    /// A member joins, leaves or says that it is there. The slots of the answer go to `assignment`.
+    pub fn heartbeat(
+        &mut self,
+        request: &Heartbeat,
+        records: &mut [u8],
+        assignment: &mut [u16],
+    ) -> Reply {
+        let sent = ffi::Request {
+            id: request.id,
+            epoch: request.epoch,
+            tick: request.tick,
+            timeout: request.timeout,
+            has_subscription: request.subscription.is_some(),
+            subscription: request.subscription.unwrap_or(0),
+            has_list: request.owned.is_some(),
+        };
+        let owned = request.owned.unwrap_or(&[]);
+        let served = ffi::heartbeat(&self.value, sent, owned, records, assignment);
+        answers::of_heartbeat(self.keep(&served))
+    }
+
+    /// Removes the members that weren't heard for too long, or took too long to give slots back.
+    pub fn sweep(&mut self, tick: u32, records: &mut [u8]) -> Reply {
+        let served = ffi::sweep(&self.value, tick, records);
+        answers::of_sweep(self.keep(&served))
+    }
+
+    /// Makes a topic, or raises its number of partitions.
+    pub fn topic(&mut self, number: u32, id: Id, count: u32, records: &mut [u8]) -> Reply {
+        let id = ffi::Id { bytes: id };
+        let served = ffi::topic(&self.value, number, id, count, records);
+        answers::of_change(self.keep(&served))
+    }
+
+    /// Sets who is to have each slot: an entry for each of the 1,024, a place or 255 for nobody.
+    pub fn install(&mut self, epoch: i32, entries: &[u8], records: &mut [u8]) -> Reply {
+        let served = ffi::install(&self.value, epoch, entries, records);
+        answers::of_change(self.keep(&served))
+    }
+
+    /// The group that came back is the group from here on.
+    fn keep<'a>(&mut self, served: &'a ffi::Served) -> &'a ffi::Reply {
+        self.value = served.group;
+        &served.reply
+    }
+}
+
+/// What a group has.
+impl Group {
+    /// 01's G.
+    pub fn epoch(&self) -> i32 {
+        signed(self.value.epoch)
+    }
+
+    /// 01's T.
+    pub fn target_epoch(&self) -> i32 {
+        signed(self.value.target_epoch)
+    }
+
+    /// The tick of the last event that had one and was accepted, or the one it was made at.
+    pub fn last_tick(&self) -> u32 {
+        self.value.tick
+    }
+
+    /// None where there is no such topic, and above 15.
+    pub fn topic_at(&self, number: u8) -> Option<Topic> {
+        let topic = self.value.topics.get(usize::from(number))?;
+        (topic.count > 0).then_some(Topic {
+            id: topic.id,
+            count: topic.count,
+        })
+    }
+
+    /// None where the place is free, and above 31.
+    pub fn member_at(&self, place: u8) -> Option<Member> {
+        let seat = self.value.seats.get(usize::from(place))?;
+        if !seat.used {
+            return None;
+        }
+        Some(Member {
+            id: seat.id,
+            epoch: signed(seat.epoch),
+            subscription: seat.subscription,
+            timeout: seat.timeout,
+            assigned: self.held(place, false),
+            revoking: self.held(place, true),
+            heard: seat.heard,
+            revoked_at: seat.revoked_at,
+        })
+    }
+
+    /// None where the slot has no target, and above 1,023.
+    pub fn target_of(&self, slot: u16) -> Option<u8> {
+        let place = *self.value.tables.target.get(usize::from(slot))?;
+        (place != ffi::NO_PLACE).then_some(place)
+    }
+
+    /// The slots that the place holds and is, or isn't, giving back.
+    fn held(&self, place: u8, waiting: bool) -> Vec<u16> {
+        let tables = &self.value.tables;
+        let slots = (0..).zip(tables.holder.iter().zip(&tables.waiting));
+        let held = slots.filter(|(_, of_slot)| *of_slot == (&place, &waiting));
+        held.map(|(slot, _)| slot).collect()
+    }
+}
+
+/// An epoch within the group is unsigned and at most 2,147,483,647, so nothing is lost.
+fn signed(epoch: u32) -> i32 {
+    epoch as i32
+}

@@ -1,0 +1,74 @@
+//! Refusals and their numbers.
+
+/// Why an event is refused: the rows of 01's table, of which `InvalidRequest` and `BadTarget` have
+/// two each.
+#[derive(Clone, Copy, PartialEq, Eq, Debug)]
+pub enum Refusal {
+    /// 1001: the tick is 2^31 or more past the last one, which is to say before it.
+    Clock,
+    /// 42: an ID, an epoch, a timeout or a list that no heartbeat may have, a join that lacks
+    /// something, or an ordinary heartbeat that lists a slot the member doesn't hold.
+    InvalidRequest,
+    /// 25: an ordinary heartbeat or a leave from an ID that is no member's.
+    UnknownMemberId,
+    /// 81: a join, and there are 32 members.
+    GroupMaxSizeReached,
+    /// 110: an ordinary heartbeat whose epoch isn't the member's.
+    FencedMemberEpoch,
+    /// 1006: an install whose list isn't 1,024 long, with slot 65,535; or the first slot that is to go
+    /// to nobody's place, doesn't exist or isn't subscribed to.
+    BadTarget {
+        /// The slot that is reported.
+        slot: u16,
+    },
+    /// 1004: an install whose epoch isn't the group's.
+    Stale,
+    /// 1005: an install, and the group's epoch has its target.
+    Already,
+    /// 1007: a number, a count or an ID that the topic can't have.
+    BadTopic,
+    /// 1002: the group's epoch would rise past 2,147,483,647.
+    EpochEnd,
+    /// 1003: the records don't fit `records`, or the slots `assignment`.
+    Room,
+}
+
+impl Refusal {
+    /// 01's number.
+    pub fn number(self) -> u16 {
+        match self {
+            Refusal::Clock => 1001,
+            Refusal::InvalidRequest => 42,
+            Refusal::UnknownMemberId => 25,
+            Refusal::GroupMaxSizeReached => 81,
+            Refusal::FencedMemberEpoch => 110,
+            Refusal::BadTarget { .. } => 1006,
+            Refusal::Stale => 1004,
+            Refusal::Already => 1005,
+            Refusal::BadTopic => 1007,
+            Refusal::EpochEnd => 1002,
+            Refusal::Room => 1003,
+        }
+    }
+
+    /// The refusal with 01's number; the slot counts for `BadTarget` alone. None: no refusal has it.
+    pub(crate) fn of(number: u32, slot: u16) -> Option<Refusal> {
+        let refusals = [
+            Refusal::Clock,
+            Refusal::InvalidRequest,
+            Refusal::UnknownMemberId,
+            Refusal::GroupMaxSizeReached,
+            Refusal::FencedMemberEpoch,
+            Refusal::BadTarget { slot },
+            Refusal::Stale,
+            Refusal::Already,
+            Refusal::BadTopic,
+            Refusal::EpochEnd,
+            Refusal::Room,
+        ];
+        let mut of_number = refusals
+            .into_iter()
+            .filter(|refusal| u32::from(refusal.number()) == number);
+        of_number.next()
+    }
+}

@@ -1,0 +1,39 @@
+//! The worked example in C, as a host in C would run it.
+
+use super::c_compiler::output_of;
+
+const PRINTED: &str = "\
+P1: 0, interval 0, epoch 0, count 0, slot 65535
+  slots
+  bytes 04 00 11 11 11 11 11 11 11 11 11 11 11 11 11 11 11 11 03
+  G 0, T 0, tick 1000
+P2: 0, interval 5000, epoch 1, count 0, slot 65535
+  slots
+  bytes 05 00 01 AA AA AA AA AA AA AA AA AA AA AA AA AA AA AA AA AC 02 01 03 01 08 00 01 00 00
+  G 1, T 0, tick 1000
+P3: 0, interval 0, epoch 0, count 0, slot 65535
+  slots
+  bytes 07 00 03 00 01 01 06 01
+  G 1, T 1, tick 1000
+P4: 0, interval 5000, epoch 1, count 3, slot 65535
+  slots 0 1 2
+  bytes 08 00 01 03 00 01 01 00
+  G 1, T 1, tick 1000
+install again: 1005, interval 0, epoch 0, count 0, slot 65535
+  slots
+  bytes
+  G 1, T 1, tick 1000
+short install: 1006, interval 0, epoch 0, count 0, slot 65535
+  slots
+  bytes
+  G 1, T 1, tick 1000
+sweep: 0, interval 0, epoch 0, count 1, slot 65535
+  slots
+  bytes 08 00 00 07 00 00 05 00 00 03 02
+  G 2, T 1, tick 46000
+";
+
+#[test]
+fn p1_to_p4_a_refusal_and_a_sweep() {
+    assert_eq!(output_of("morning"), PRINTED);
+}
