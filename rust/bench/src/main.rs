@@ -1,0 +1,53 @@
+//! The speed of the proved coordinator beside the plain one's, in one process and one run. Times
+//! are only printed; nothing depends on them.
+#![forbid(unsafe_code)]
+
+mod clock;
+mod coordinator;
+mod event;
+mod options;
+mod row;
+mod scene;
+
+use std::env;
+use std::process::ExitCode;
+
+use options::{Options, HELP};
+use row::{Row, HEADING};
+use scene::Kind;
+
+const INTRODUCTION: &str = "\
+Timed is one call through the public API, with the making of its request: 4,096 bytes and 1,024
+entries lent and not cleared between calls, 16 topics of 64 partitions, the 1,024 slots shared
+evenly, the members in turn. Where an event changes what the next one would find, each call has a
+copy of the group, made outside the timed part. A round is about 40 ms, in which the two sides take
+turns batch by batch, and counts for each side as the median of its batches; the times are medians
+over the rounds, the ratio is theirs, and lowest and highest are the ratios of single rounds.";
+
+fn main() -> ExitCode {
+    let words: Vec<String> = env::args().skip(1).collect();
+    if words.iter().any(|word| word == "--help") {
+        println!("{HELP}");
+        return ExitCode::SUCCESS;
+    }
+    match Options::of(words.into_iter()) {
+        Ok(options) => {
+            print_table(&options);
+            ExitCode::SUCCESS
+        }
+        Err(why) => {
+            eprintln!("bench: {why}\n{HELP}");
+            ExitCode::from(2)
+        }
+    }
+}
+
+fn print_table(options: &Options) {
+    println!("{INTRODUCTION}\nRounds: {}.\n\n{HEADING}", options.rounds);
+    let kinds = Kind::ALL.into_iter();
+    for kind in kinds.filter(|kind| kind.name().contains(&options.only)) {
+        for &members in &options.sizes {
+            println!("{}", Row::measured(kind, members, options.rounds));
+        }
+    }
+}

@@ -1,0 +1,284 @@
+//! The scenes that are timed: a group, and events that each find it as it is.
+
+use crate::coordinator::{Coordinator, Lent, Outcome, Standing};
+use crate::event::{Beat, Event};
+
+const TOPICS: u8 = 16;
+const PARTITIONS: u32 = 64;
+const SLOTS: usize = 1_024;
+const NOBODY: u8 = 255;
+const ALL_TOPICS: u16 = u16::MAX;
+const REBALANCE_TIMEOUT: i32 = 300_000;
+const NOT_GIVEN: i32 = -1;
+const JOINS: i32 = 0;
+const FENCED: u16 = 110;
+
+/// The tick at which the group is made and settles.
+const START: u32 = 1_000;
+/// A member heard at `START` and not since is still within its session here,
+const LATER: u32 = START + 40_000;
+/// and no longer here.
+const OVERDUE: u32 = START + 45_000;
+
+/// What a row of the table times.
+#[derive(Clone, Copy, PartialEq, Eq)]
+pub enum Kind {
+    RejoinEmpty,
+    RejoinHolding,
+    Quiet,
+    GivesBack,
+    Takes,
+    SweepNobody,
+    SweepOne,
+    Install,
+    Refused,
+}
+
+impl Kind {
+    pub const ALL: [Kind; 9] = [
+        Kind::RejoinEmpty,
+        Kind::RejoinHolding,
+        Kind::Quiet,
+        Kind::GivesBack,
+        Kind::Takes,
+        Kind::SweepNobody,
+        Kind::SweepOne,
+        Kind::Install,
+        Kind::Refused,
+    ];
+
+    pub fn name(self) -> &'static str {
+        match self {
+            Kind::RejoinEmpty => "join again, holding nothing",
+            Kind::RejoinHolding => "join again, holding its share",
+            Kind::Quiet => "heartbeat that changes nothing",
+            Kind::GivesBack => "heartbeat that moves half its slots to giving back",
+            Kind::Takes => "heartbeat that takes its share",
+            Kind::SweepNobody => "sweep that removes nobody",
+            Kind::SweepOne => "sweep that removes one",
+            Kind::Install => "install that changes every target",
+            Kind::Refused => "heartbeat refused (110)",
+        }
+    }
+
+    /// Whether the event leaves a group in which it would be another event, so that each call needs
+    /// a copy of the group.
+    pub fn spends_its_group(self) -> bool {
+        match self {
+            Kind::RejoinEmpty | Kind::Quiet | Kind::SweepNobody | Kind::Refused => false,
+            Kind::RejoinHolding
+            | Kind::GivesBack
+            | Kind::Takes
+            | Kind::SweepOne
+            | Kind::Install => true,
+        }
+    }
+
+    /// Whether the scene is what its name says, by the answer and the bytes of records.
+    pub fn is_answered_by(self, outcome: Outcome, written: usize) -> bool {
+        match (self, outcome) {
+            (Kind::RejoinEmpty | Kind::RejoinHolding, Outcome::Assigned { count, .. }) => {
+                count == 0 && written > 0
+            }
+            (Kind::Quiet, Outcome::Assigned { count, .. }) => count > 0 && written == 0,
+            (Kind::GivesBack | Kind::Takes, Outcome::Assigned { count, .. }) => {
+                count > 0 && written > 0
+            }
+            (Kind::SweepNobody, Outcome::Swept(removed)) => removed == 0,
+            (Kind::SweepOne, Outcome::Swept(removed)) => removed == 1,
+            (Kind::Install, Outcome::Done) => written > 0,
+            (Kind::Refused, Outcome::Refused(number)) => number == FENCED,
+            _ => false,
+        }
+    }
+}
+
+/// The events are taken in turn; there is at least one.
+pub struct Scene<C> {
+    pub kind: Kind,
+    pub group: C,
+    pub events: Vec<Event>,
+}
+
+impl<C: Coordinator> Scene<C> {
+    pub fn new(kind: Kind, members: u8) -> Scene<C> {
+        let group = group_for(kind, members);
+        let events = events_for(kind, members, &group);
+        Scene {
+            kind,
+            group,
+            events,
+        }
+    }
+}
+
+fn group_for<C: Coordinator>(kind: Kind, members: u8) -> C {
+    match kind {
+        Kind::RejoinEmpty => joined(members),
+        Kind::RejoinHolding | Kind::Quiet | Kind::SweepNobody | Kind::Refused => settled(members),
+        Kind::GivesBack => retargeted(members),
+        Kind::Takes => targeted(members),
+        Kind::SweepOne => silent_last(members),
+        Kind::Install => untargeted(members),
+    }
+}
+
+fn events_for<C: Coordinator>(kind: Kind, members: u8, group: &C) -> Vec<Event> {
+    let of_each = |event: fn(u8, Standing) -> Event| {
+        let places = 0..members;
+        places
+            .map(|place| event(place, standing(group, place)))
+            .collect()
+    };
+    match kind {
+        Kind::RejoinEmpty | Kind::RejoinHolding => of_each(|place, _| join(place)),
+        Kind::Quiet | Kind::GivesBack | Kind::Takes => {
+            of_each(|place, standing| ordinary(place, standing, START))
+        }
+        Kind::Refused => of_each(|place, standing| ordinary(place, of_later(standing), START)),
+        Kind::SweepNobody => vec![Event::Sweep { tick: LATER }],
+        Kind::SweepOne => vec![Event::Sweep { tick: OVERDUE }],
+        Kind::Install => vec![install(group, moved_target(members))],
+    }
+}
+
+/// Sixteen topics of sixty-four partitions, and members that subscribe to all.
+fn joined<C: Coordinator>(members: u8) -> C {
+    let mut group = C::made(START);
+    for number in 0..TOPICS {
+        let count = PARTITIONS;
+        prepare(&mut group, &Event::Topic { number, count });
+    }
+    for place in 0..members {
+        prepare(&mut group, &join(place));
+    }
+    group
+}
+
+/// Every member has a target and holds nothing yet.
+fn targeted<C: Coordinator>(members: u8) -> C {
+    let mut group: C = joined(members);
+    let event = install(&group, even_target(members));
+    prepare(&mut group, &event);
+    group
+}
+
+/// Every member holds its target and is at T.
+fn settled<C: Coordinator>(members: u8) -> C {
+    let mut group: C = targeted(members);
+    beat_all(&mut group, members, START);
+    group
+}
+
+/// As settled, but G is above T, for a member changed its subscription and changed it back.
+fn untargeted<C: Coordinator>(members: u8) -> C {
+    let mut group: C = settled(members);
+    for subscription in [1, ALL_TOPICS] {
+        let event = Event::Beat(Beat {
+            subscription: Some(subscription),
+            ..beat(0, standing(&group, 0), START)
+        });
+        prepare(&mut group, &event);
+    }
+    group
+}
+
+/// Every member holds what it held in the even target, and the moved one is installed.
+fn retargeted<C: Coordinator>(members: u8) -> C {
+    let mut group: C = untargeted(members);
+    let event = install(&group, moved_target(members));
+    prepare(&mut group, &event);
+    group
+}
+
+/// As settled, and all but the last member were heard again.
+fn silent_last<C: Coordinator>(members: u8) -> C {
+    let mut group: C = settled(members);
+    beat_all(&mut group, members - 1, LATER);
+    group
+}
+
+fn beat_all<C: Coordinator>(group: &mut C, members: u8, tick: u32) {
+    for place in 0..members {
+        let event = ordinary(place, standing(group, place), tick);
+        prepare(group, &event);
+    }
+}
+
+fn prepare<C: Coordinator>(group: &mut C, event: &Event) {
+    let reply = group.play(event, &mut Lent::new());
+    if let Outcome::Refused(number) = C::outcome(reply) {
+        panic!("an event that prepares a scene was refused with {number}");
+    }
+}
+
+fn standing<C: Coordinator>(group: &C, place: u8) -> Standing {
+    match group.standing(place) {
+        Some(standing) => standing,
+        None => panic!("nobody is at place {place}"),
+    }
+}
+
+/// The epoch is one that the member doesn't have.
+fn of_later(standing: Standing) -> Standing {
+    Standing {
+        epoch: standing.epoch + 1,
+        ..standing
+    }
+}
+
+fn join(place: u8) -> Event {
+    let epoch = JOINS;
+    let owned = Vec::new();
+    Event::Beat(Beat {
+        timeout: REBALANCE_TIMEOUT,
+        subscription: Some(ALL_TOPICS),
+        ..beat(place, Standing { epoch, owned }, START)
+    })
+}
+
+fn ordinary(place: u8, standing: Standing, tick: u32) -> Event {
+    Event::Beat(beat(place, standing, tick))
+}
+
+fn beat(place: u8, standing: Standing, tick: u32) -> Beat {
+    Beat {
+        id: [place + 1; 16],
+        epoch: standing.epoch,
+        tick,
+        timeout: NOT_GIVEN,
+        subscription: None,
+        owned: standing.owned,
+    }
+}
+
+fn install<C: Coordinator>(group: &C, entries: Vec<u8>) -> Event {
+    Event::Install {
+        epoch: group.group_epoch(),
+        entries,
+    }
+}
+
+/// Slot by slot to each member in turn.
+fn even_target(members: u8) -> Vec<u8> {
+    let members = usize::from(members);
+    (0..SLOTS).map(|slot| (slot % members) as u8).collect()
+}
+
+/// Every other slot of a member goes to the next one, or to nobody where there is one member.
+fn moved_target(members: u8) -> Vec<u8> {
+    let turn = |slot: usize| slot / usize::from(members);
+    let moved = |(slot, place): (usize, u8)| match turn(slot) % 2 {
+        0 => place,
+        _ => next(place, members),
+    };
+    let places = even_target(members).into_iter();
+    places.enumerate().map(moved).collect()
+}
+
+fn next(place: u8, members: u8) -> u8 {
+    match members {
+        1 => NOBODY,
+        _ => (place + 1) % members,
+    }
+}
