@@ -19,6 +19,7 @@ mod heartbeats; // heartbeats.rt: a heartbeat taken as what its epoch says
 use events::Outcome;
 use group::Group;
 pub use heartbeats::heartbeat;
+use rules::Id;
 
 // A group with no topics and no members, made at a tick. Demand 3 holds of every run from it: no slot is ever with two members, and three rounds of
 // heartbeats settle every member on the target in force.
@@ -36,7 +37,7 @@ pub fn sweep(g: Group, tick: u32, records: &mut [u8]) -> Outcome
 }
 
 // Makes a topic, or raises its count.
-pub fn topic(g: Group, number: u32, id: [u8; 16], count: u32, records: &mut [u8]) -> Outcome
+pub fn topic(g: Group, number: u32, id: Id, count: u32, records: &mut [u8]) -> Outcome
     ensures { λ r. ⌜ ((l : List ℕ) → took r (now (records .exit)) l ≡ step (view g) (E.topic number id count) (now (records .entry)) l) ⌝ }
 {
     topics::topic(g, number, id, count, records)

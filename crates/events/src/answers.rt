@@ -3,6 +3,7 @@ ghost use mathlib.Core.Path.{_≡_};
 ghost use Rattle.rules.specs.Answers.{numberOf, slotReported, said};
 ghost use Rattle.events.specs.Answering.{viewSaid};
 use rules::Answer;
+use rules::NO_SLOT;
 use rules::Refusal;
 
 // 01's number (0: accepted); the epoch, -1 for a leave; the heartbeat interval; how many slots the answer carries or members a sweep removed; the slot
@@ -41,16 +42,16 @@ pub fn slot_reported(r: Refusal) -> u16
 {
     match r {
         Refusal::BadTarget(slot) => slot.0,
-        Refusal::Clock => 65535,
-        Refusal::InvalidRequest => 65535,
-        Refusal::UnknownMemberId => 65535,
-        Refusal::GroupMaxSizeReached => 65535,
-        Refusal::FencedMemberEpoch => 65535,
-        Refusal::Stale => 65535,
-        Refusal::Already => 65535,
-        Refusal::BadTopic => 65535,
-        Refusal::EpochEnd => 65535,
-        Refusal::Room => 65535,
+        Refusal::Clock => NO_SLOT,
+        Refusal::InvalidRequest => NO_SLOT,
+        Refusal::UnknownMemberId => NO_SLOT,
+        Refusal::GroupMaxSizeReached => NO_SLOT,
+        Refusal::FencedMemberEpoch => NO_SLOT,
+        Refusal::Stale => NO_SLOT,
+        Refusal::Already => NO_SLOT,
+        Refusal::BadTopic => NO_SLOT,
+        Refusal::EpochEnd => NO_SLOT,
+        Refusal::Room => NO_SLOT,
     }
 }
 
@@ -64,28 +65,28 @@ pub fn what_is_said(a: Answer) -> Said
             interval: x.interval,
             epoch: x.epoch as i64,
             count: x.count,
-            slot: 65535,
+            slot: NO_SLOT,
         },
         Answer::Left => Said {
             number: 0,
             interval: 0,
             epoch: -1,
             count: 0,
-            slot: 65535,
+            slot: NO_SLOT,
         },
         Answer::Swept(n) => Said {
             number: 0,
             interval: 0,
             epoch: 0,
             count: n,
-            slot: 65535,
+            slot: NO_SLOT,
         },
         Answer::Done => Said {
             number: 0,
             interval: 0,
             epoch: 0,
             count: 0,
-            slot: 65535,
+            slot: NO_SLOT,
         },
         Answer::Refused(r) => Said {
             number: number_of(r),

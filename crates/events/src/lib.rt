@@ -9,10 +9,8 @@ pub use answers::number_of;
 pub use answers::what_is_said;
 use group::Group;
 use rules::Answer;
+use rules::Id;
 use rules::Refusal;
-
-// The interval at which members are asked to send heartbeats.
-pub const INTERVAL: u32 = 5000;
 
 // What an event comes to: the group after it, the answer, and how many bytes of records were written to the buffer.
 #[repr(C)]
@@ -25,7 +23,7 @@ pub struct Outcome {
 // A heartbeat, but for its list of owned slots, which is lent beside it and counts only where `has_list`.
 #[repr(C)]
 pub struct Request {
-    pub id: [u8; 16],
+    pub id: Id,
     pub epoch: i32,
     pub tick: u32,
     pub timeout: i32,

@@ -12,11 +12,12 @@ ghost use Rattle.exports.specs.Replies.{replied, reportOf};
 use events::Outcome;
 use events::Request;
 use group::Group;
+use rules::ID_LENGTH;
 
 // The 16 bytes of a topic's ID.
 #[repr(C)]
 pub struct Id {
-    pub bytes: [u8; 16],
+    pub bytes: [u8; ID_LENGTH],
 }
 
 // An answer: 01's number (0: accepted); the heartbeat interval; the epoch, -1 for a leave; how many slots the answer carries or members a sweep removed;

@@ -7,10 +7,12 @@ ghost use Rattle.rules.specs.Effects.{changed, withTopic, withTarget};
 ghost use Rattle.tables.specs.View.{viewTables};
 ghost use Rattle.group.specs.View.{view, viewSeat};
 use crate::Group;
-use crate::MEMBERS;
 use crate::Seat;
 use crate::Topic;
+use rules::Id;
+use rules::MEMBERS;
 use rules::Place;
+use rules::TOPICS;
 use tables::Tables;
 
 // The group at another group epoch and tick.
@@ -48,13 +50,13 @@ pub fn without_member(g: Group, p: Place, tables: Tables) -> Group
 }
 
 // The group with another topic and group epoch.
-pub fn with_topic(g: Group, number: u32, id: [u8; 16], count: u8, epoch: u32) -> Group
+pub fn with_topic(g: Group, number: u32, id: Id, count: u8, epoch: u32) -> Group
     ensures { λ r. ⌜ (1 ≤ count → view r ≡ withTopic (view g) number id count epoch) ⌝ }
 {
     let mut next = g;
     next.epoch = epoch;
     let n = number as usize;
-    if n < 16 {
+    if n < TOPICS {
         next.topics[n] = Topic {
             id: id,
             count: count,

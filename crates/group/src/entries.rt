@@ -5,17 +5,20 @@ ghost use Rattle.rules.specs.Refusals.{firstBad};
 ghost use Rattle.group.specs.View.{view};
 ghost use Rattle.group.specs.Entries.{counts, subscriptionOf, subscriptions, entryBad, firstWith};
 use crate::Group;
-use crate::MEMBERS;
 use crate::Seat;
 use crate::Topic;
+use rules::MEMBERS;
+use rules::NO_PLACE;
+use rules::PARTITIONS;
+use rules::TOPICS;
 
 // The count of each topic, 0 where there is none.
-fn counts_of(topics: [Topic; 16]) -> [u8; 16]
+fn counts_of(topics: [Topic; TOPICS]) -> [u8; TOPICS]
     ensures { λ r. ⌜ r ≡ counts topics ⌝ }
 {
-    let mut all = [0u8; 16];
+    let mut all = [0u8; TOPICS];
     let mut i: usize = 0;
-    while i < 16 {
+    while i < TOPICS {
         let t = topics[i];
         all[i] = t.count;
         i += 1;
@@ -48,14 +51,14 @@ fn subscriptions_of(seats: [Seat; MEMBERS]) -> [u16; MEMBERS]
 }
 
 // Whether an entry may not stand at a slot: it is a place, and the slot does not exist or no member there subscribes to its topic.
-fn is_bad_entry(counts: [u8; 16], subscriptions: [u16; MEMBERS], slot: usize, entry: u8) -> bool
+fn is_bad_entry(counts: [u8; TOPICS], subscriptions: [u16; MEMBERS], slot: usize, entry: u8) -> bool
     ensures { λ r. ⌜ r ≡ entryBad counts subscriptions slot entry ⌝ }
 {
-    if entry == 255 {
+    if entry == NO_PLACE {
         return false;
     }
-    let topic = slot / 64;
-    if 16 <= topic {
+    let topic = slot / PARTITIONS;
+    if TOPICS <= topic {
         return true;
     }
     let place = entry as usize;
@@ -63,7 +66,7 @@ fn is_bad_entry(counts: [u8; 16], subscriptions: [u16; MEMBERS], slot: usize, en
         return true;
     }
     let count = counts[topic] as usize;
-    if count <= slot % 64 {
+    if count <= slot % PARTITIONS {
         return true;
     }
     let subscription = subscriptions[place];
@@ -71,7 +74,7 @@ fn is_bad_entry(counts: [u8; 16], subscriptions: [u16; MEMBERS], slot: usize, en
 }
 
 // The first slot whose entry may not stand, or the number of entries.
-fn first_bad_of(counts: [u8; 16], subscriptions: [u16; MEMBERS], entries: &[u8]) -> usize
+fn first_bad_of(counts: [u8; TOPICS], subscriptions: [u16; MEMBERS], entries: &[u8]) -> usize
     ensures { λ r. ⌜ r ≡ firstWith (entryBad counts subscriptions) 0 (now (entries .entry)) ⌝ }
 {
     let mut slot: usize = 0;

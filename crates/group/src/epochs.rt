@@ -8,12 +8,13 @@ ghost use Rattle.rules.specs.Group.{raised};
 ghost use Rattle.rules.specs.Refusals.{isEpoch, kindOf};
 ghost use Rattle.group.specs.Kinds.{viewKind};
 use crate::Kind;
+use rules::LAST_EPOCH;
 
 // Whether a group epoch has its largest value.
 pub fn at_end(epoch: u32) -> bool
     ensures { λ r. ⌜ r ≡ leb lastEpoch epoch ⌝ }
 {
-    2147483647 <= epoch
+    LAST_EPOCH <= epoch
 }
 
 // Row 1002: whether an epoch that is to rise cannot.
@@ -30,7 +31,7 @@ pub fn past_end(raises: bool, epoch: u32) -> bool
 pub fn raised_epoch(epoch: u32) -> u32
     ensures { λ r. ⌜ r ≡ raised epoch ⌝ }
 {
-    if epoch < 2147483647 {
+    if epoch < LAST_EPOCH {
         return epoch + 1;
     }
     epoch

@@ -2,13 +2,15 @@
 ghost use mathlib.Core.Path.{_≡_};
 ghost use Rattle.rules.specs.Basics.{same};
 ghost use Rattle.rules.specs.Refusals.{zeroId};
+use rules::ID_LENGTH;
+use rules::Id;
 
 // Whether two IDs are equal.
-pub fn same_id(a: [u8; 16], b: [u8; 16]) -> bool
+pub fn same_id(a: Id, b: Id) -> bool
     ensures { λ r. ⌜ r ≡ same a b ⌝ }
 {
     let mut i: usize = 0;
-    while i < 16 {
+    while i < ID_LENGTH {
         if a[i] != b[i] {
             return false;
         }
@@ -18,11 +20,11 @@ pub fn same_id(a: [u8; 16], b: [u8; 16]) -> bool
 }
 
 // Whether an ID is all zero, which no member or topic may have.
-pub fn is_zero(id: [u8; 16]) -> bool
+pub fn is_zero(id: Id) -> bool
     ensures { λ r. ⌜ r ≡ zeroId id ⌝ }
 {
     let mut i: usize = 0;
-    while i < 16 {
+    while i < ID_LENGTH {
         if id[i] != 0 {
             return false;
         }

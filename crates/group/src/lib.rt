@@ -3,7 +3,13 @@
 ghost use mathlib.Core.Path.{_≡_};
 ghost use Rattle.rules.specs.Group.{fresh};
 ghost use Rattle.group.specs.View.{view};
+use rules::ID_LENGTH;
+use rules::Id;
+use rules::MEMBERS;
+use rules::NO_PLACE;
 use rules::Place;
+use rules::SLOTS;
+use rules::TOPICS;
 use tables::Tables;
 
 pub mod changes; // changes.rt: the group with a part of it replaced
@@ -16,20 +22,17 @@ pub mod seats; // seats.rt: places and the members at them
 pub mod ticks; // ticks.rt: elapsed time
 pub mod topics; // topics.rt: topics and row 1007
 
-// At most so many members.
-pub const MEMBERS: usize = 32;
-
 // A topic of some number; with count 0 there is none.
 #[repr(C)]
 pub struct Topic {
-    pub id: [u8; 16],
+    pub id: Id,
     pub count: u8,
 }
 
 // A place and, where it is `used`, the member at it: without its slots, which stand in the tables.
 #[repr(C)]
 pub struct Seat {
-    pub id: [u8; 16],
+    pub id: Id,
     pub epoch: u32,
     pub subscription: u16,
     pub timeout: u32,
@@ -43,7 +46,7 @@ pub struct Group {
     pub epoch: u32,
     pub target_epoch: u32,
     pub tick: u32,
-    pub topics: [Topic; 16],
+    pub topics: [Topic; TOPICS],
     pub seats: [Seat; MEMBERS],
     pub tables: Tables,
 }
@@ -66,7 +69,7 @@ pub enum Found {
 pub fn fresh(tick: u32) -> Group
     ensures { λ r. ⌜ view r ≡ fresh tick ⌝ }
 {
-    let id = [0u8; 16];
+    let id = [0u8; ID_LENGTH];
     let no_topic = Topic { id: id, count: 0 };
     let vacant = Seat {
         id: id,
@@ -78,15 +81,15 @@ pub fn fresh(tick: u32) -> Group
         used: false,
     };
     let tables = Tables {
-        target: [255u8; 1024],
-        holder: [255u8; 1024],
-        waiting: [false; 1024],
+        target: [NO_PLACE; SLOTS],
+        holder: [NO_PLACE; SLOTS],
+        waiting: [false; SLOTS],
     };
     Group {
         epoch: 0,
         target_epoch: 0,
         tick: tick,
-        topics: [no_topic; 16],
+        topics: [no_topic; TOPICS],
         seats: [vacant; MEMBERS],
         tables: tables,
     }

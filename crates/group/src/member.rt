@@ -4,11 +4,13 @@ ghost use mathlib.Core.Path.{_≡_};
 ghost use Prim.Native.Nat.{max};
 ghost use Rattle.group.specs.Transitions.{memberOf, seatOf, memberRejoined, memberFreed, memberRevoked, memberAdvanced, memberStored, memberHeard};
 use crate::Seat;
+use rules::Id;
 use slots::SlotSet;
+use slots::WORDS;
 
 // A member: `assigned` is 01's A and `revoking` its P.
 pub struct Member {
-    pub id: [u8; 16],
+    pub id: Id,
     pub epoch: u32,
     pub subscription: u16,
     pub timeout: u32,
@@ -65,7 +67,7 @@ impl Member {
     pub fn rejoin(self, epoch: u32, subscription: u16, timeout: u32, tick: u32) -> Member
         ensures { λ r. ⌜ r ≡ memberRejoined self epoch subscription timeout tick ⌝ }
     {
-        let none = SlotSet { words: [0; 16] };
+        let none = SlotSet { words: [0; WORDS] };
         let mut next = self;
         next.epoch = epoch;
         next.subscription = subscription;
@@ -81,7 +83,7 @@ impl Member {
     pub fn free(self) -> Member
         ensures { λ r. ⌜ r ≡ memberFreed self ⌝ }
     {
-        let none = SlotSet { words: [0; 16] };
+        let none = SlotSet { words: [0; WORDS] };
         let mut next = self;
         next.revoking = none;
         next

@@ -1,6 +1,8 @@
 // The timeout and the list of a heartbeat, as rows 42 try them.
 ghost use mathlib.Core.Path.{_≡_};
 ghost use Rattle.rules.specs.Refusals.{badTimeout, noTimeout, timeoutOr, badList};
+use rules::MAX_TIMEOUT;
+use rules::SLOT_END;
 
 // Whether a timeout is neither -1 nor 1 to 1,800,000.
 pub fn is_bad_timeout(t: i32) -> bool
@@ -12,7 +14,7 @@ pub fn is_bad_timeout(t: i32) -> bool
     if t < 1 {
         return true;
     }
-    1800000 < t
+    MAX_TIMEOUT < t
 }
 
 // Whether no timeout is given.
@@ -43,7 +45,7 @@ pub fn is_bad_list(list: &[u16]) -> bool
         if x < from {
             return true;
         }
-        if 1024 <= x {
+        if SLOT_END <= x {
             return true;
         }
         from = x + 1;

@@ -11,11 +11,15 @@ ghost use Rattle.group.specs.Members.{joinedAs};
 ghost use Rattle.group.specs.Searches.{Finds};
 use crate::Found;
 use crate::Group;
-use crate::MEMBERS;
 use crate::Seat;
 use crate::ids;
 use crate::ticks;
+use rules::ID_LENGTH;
+use rules::Id;
+use rules::MEMBERS;
 use rules::Place;
+use rules::SESSION_TIMEOUT;
+use rules::TOPIC_END;
 
 impl Seat {
     // A place without a member.
@@ -23,7 +27,7 @@ impl Seat {
         ensures { λ r. ⌜ viewSeat r ≡ none ⌝ }
     {
         Seat {
-            id: [0; 16],
+            id: [0; ID_LENGTH],
             epoch: 0,
             subscription: 0,
             timeout: 0,
@@ -34,7 +38,7 @@ impl Seat {
     }
 
     // A member that joins at a tick.
-    pub fn joined(id: [u8; 16], epoch: u32, subscription: u16, timeout: u32, tick: u32) -> Seat
+    pub fn joined(id: Id, epoch: u32, subscription: u16, timeout: u32, tick: u32) -> Seat
         ensures { λ r. ⌜ r ≡ joinedAs id epoch subscription timeout tick ⌝ }
     {
         Seat {
@@ -61,7 +65,7 @@ pub fn seat_at(seats: [Seat; MEMBERS], p: Place) -> Seat
 }
 
 // Whether the member at this place has an ID.
-fn has_id(s: Seat, id: [u8; 16]) -> bool
+fn has_id(s: Seat, id: Id) -> bool
     ensures { λ r. ⌜ r ≡ isMember id (viewSeat s) ⌝ }
 {
     if s.used {
@@ -72,7 +76,7 @@ fn has_id(s: Seat, id: [u8; 16]) -> bool
 }
 
 // The first place whose member has an ID.
-pub fn find_id(seats: [Seat; MEMBERS], id: [u8; 16]) -> Found
+pub fn find_id(seats: [Seat; MEMBERS], id: Id) -> Found
     ensures { λ r. ⌜ Finds (any (isMember id) (map viewSeat seats)) (find (isMember id) (map viewSeat seats)) r ⌝ }
 {
     let mut i: usize = 0;
@@ -87,7 +91,7 @@ pub fn find_id(seats: [Seat; MEMBERS], id: [u8; 16]) -> Found
 }
 
 // The place of the member with an ID.
-pub fn find_member(g: Group, id: [u8; 16]) -> Found
+pub fn find_member(g: Group, id: Id) -> Found
     ensures { λ r. ⌜ Finds (known (view g) id) (placeOf (view g) id) r ⌝ }
 {
     let seats = g.seats;
@@ -129,7 +133,7 @@ fn member_subscribes(s: Seat, topic: u32) -> bool
     ensures { λ r. ⌜ r ≡ subscribes topic (viewSeat s) ⌝ }
 {
     if s.used {
-        if topic < 16 {
+        if topic < TOPIC_END {
             let subscription = s.subscription;
             return (subscription >> topic) % 2 == 1;
         }
@@ -159,7 +163,7 @@ pub fn is_due(s: Seat, revokes: bool, tick: u32) -> bool
 {
     if s.used {
         let unheard = ticks::elapsed(tick, s.heard);
-        if 45000 <= unheard {
+        if SESSION_TIMEOUT <= unheard {
             return true;
         }
         if revokes {

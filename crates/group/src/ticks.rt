@@ -3,6 +3,7 @@ ghost use mathlib.Core.Path.{_≡_};
 ghost use lib.Dec.{leb};
 ghost use Rattle.rules.specs.Constants.{clockLimit};
 ghost use Rattle.rules.specs.Group.{elapsed};
+use rules::CLOCK_LIMIT;
 
 // The time from the tick `since` to `tick`.
 pub fn elapsed(tick: u32, since: u32) -> u32
@@ -15,5 +16,5 @@ pub fn elapsed(tick: u32, since: u32) -> u32
 pub fn goes_back(last: u32, tick: u32) -> bool
     ensures { λ r. ⌜ r ≡ leb clockLimit (elapsed tick last) ⌝ }
 {
-    2147483648 <= elapsed(tick, last)
+    CLOCK_LIMIT <= elapsed(tick, last)
 }

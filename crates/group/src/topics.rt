@@ -10,23 +10,28 @@ use crate::Group;
 use crate::Topic;
 use crate::ids;
 use crate::seats;
+use rules::ID_LENGTH;
+use rules::Id;
+use rules::MAX_COUNT;
+use rules::TOPIC_END;
+use rules::TOPICS;
 
 // The topic of a number, and none past the last.
-pub fn topic_at(topics: [Topic; 16], number: u32) -> Topic
+pub fn topic_at(topics: [Topic; TOPICS], number: u32) -> Topic
     ensures { λ r. ⌜ viewTopic r ≡ getD (map viewTopic topics) number none ⌝ }
 {
     let n = number as usize;
-    if n < 16 {
+    if n < TOPICS {
         return topics[n];
     }
     Topic {
-        id: [0; 16],
+        id: [0; ID_LENGTH],
         count: 0,
     }
 }
 
 // Whether there is this topic, with an ID.
-fn has_id(t: Topic, id: [u8; 16]) -> bool
+fn has_id(t: Topic, id: Id) -> bool
     ensures { λ r. ⌜ r ≡ hasId id (viewTopic t) ⌝ }
 {
     if t.count == 0 {
@@ -37,11 +42,11 @@ fn has_id(t: Topic, id: [u8; 16]) -> bool
 }
 
 // Whether some topic has an ID.
-fn any_has_id(topics: [Topic; 16], id: [u8; 16]) -> bool
+fn any_has_id(topics: [Topic; TOPICS], id: Id) -> bool
     ensures { λ r. ⌜ r ≡ any (hasId id) (map viewTopic topics) ⌝ }
 {
     let mut i: usize = 0;
-    while i < 16 {
+    while i < TOPICS {
         let t = topics[i];
         if has_id(t, id) {
             return true;
@@ -52,11 +57,11 @@ fn any_has_id(topics: [Topic; 16], id: [u8; 16]) -> bool
 }
 
 // Whether a topic of another number has an ID.
-fn other_has_id(topics: [Topic; 16], number: u32, id: [u8; 16]) -> bool
+fn other_has_id(topics: [Topic; TOPICS], number: u32, id: Id) -> bool
     ensures { λ r. ⌜ r ≡ any (hasId id) (set (map viewTopic topics) number none) ⌝ }
 {
     let n = number as usize;
-    if n < 16 {
+    if n < TOPICS {
         let mut others = topics;
         others[n] = Topic { id: id, count: 0 };
         return any_has_id(others, id);
@@ -65,7 +70,7 @@ fn other_has_id(topics: [Topic; 16], number: u32, id: [u8; 16]) -> bool
 }
 
 // Whether there is no such topic yet, or it has this ID and no higher count.
-fn allows_count(t: Topic, id: [u8; 16], count: u32) -> bool
+fn allows_count(t: Topic, id: Id, count: u32) -> bool
     ensures { λ r. ⌜ r ≡ allows id count (viewTopic t) ⌝ }
 {
     let had = t.count as u32;
@@ -91,16 +96,16 @@ fn count_changes(t: Topic, count: u32) -> bool
 }
 
 // Row 1007.
-pub fn is_bad_topic(g: Group, number: u32, id: [u8; 16], count: u32) -> bool
+pub fn is_bad_topic(g: Group, number: u32, id: Id, count: u32) -> bool
     ensures { λ r. ⌜ r ≡ topicBad (view g) number id count ⌝ }
 {
-    if 16 <= number {
+    if TOPIC_END <= number {
         return true;
     }
     if count == 0 {
         return true;
     }
-    if 64 < count {
+    if MAX_COUNT < count {
         return true;
     }
     if ids::is_zero(id) {

@@ -16,17 +16,20 @@ use events::Outcome;
 use events::refused;
 use group::Group;
 use rules::Answer;
+use rules::NO_PLACE;
+use rules::NO_SLOT;
 use rules::Refusal;
+use rules::SLOTS;
 use rules::Slot;
 
 // The entries as a table.
-fn table_of(entries: &[u8]) -> [u8; 1024]
+fn table_of(entries: &[u8]) -> [u8; SLOTS]
     requires { ⌜ length (now entries) ≡ slotCount ⌝ }
     ensures { λ r. ⌜ r ≡ now (entries .entry) ⌝ }
 {
-    let mut table = [255; 1024];
+    let mut table = [NO_PLACE; SLOTS];
     let mut i: usize = 0;
-    while i < 1024 {
+    while i < SLOTS {
         table[i] = entries[i];
         i += 1;
     }
@@ -34,7 +37,7 @@ fn table_of(entries: &[u8]) -> [u8; 1024]
 }
 
 // An install that no row of the table refuses: the target replaced, and T becomes G.
-fn install_at(g: Group, target: [u8; 1024], records: &mut [u8]) -> Outcome
+fn install_at(g: Group, target: [u8; SLOTS], records: &mut [u8]) -> Outcome
     ensures { λ r. ⌜ ((l : List ℕ) → took r (now (records .exit)) l ≡ carried (view g) (installEffect (view g) target) (now (records .entry)) l) ⌝ }
 {
     let tables = g.tables;
@@ -58,8 +61,8 @@ fn install_at(g: Group, target: [u8; 1024], records: &mut [u8]) -> Outcome
 pub fn install(g: Group, epoch: i32, entries: &[u8], records: &mut [u8]) -> Outcome
     ensures { λ r. ⌜ ((l : List ℕ) → took r (now (records .exit)) l ≡ step (view g) (E.install epoch (now (entries .entry))) (now (records .entry)) l) ⌝ }
 {
-    if entries.len() != 1024 {
-        return refused(g, Refusal::BadTarget(Slot(65535)));
+    if entries.len() != SLOTS {
+        return refused(g, Refusal::BadTarget(Slot(NO_SLOT)));
     }
     let current = g.epoch;
     if !group::epochs::is_epoch(epoch, current) {
@@ -69,7 +72,7 @@ pub fn install(g: Group, epoch: i32, entries: &[u8], records: &mut [u8]) -> Outc
         return refused(g, Refusal::Already);
     }
     let bad = group::entries::first_bad(g, entries);
-    if bad < 1024 {
+    if bad < SLOTS {
         return refused(g, Refusal::BadTarget(Slot(bad as u16)));
     }
     let target = table_of(entries);

@@ -12,8 +12,9 @@ ghost use Rattle.rules.specs.Effects.{onlyIf, installRecords};
 ghost use Rattle.numbers.specs.Buffer.{Wrote};
 ghost use Rattle.slots.specs.Set.{slotsOf};
 ghost use Rattle.installing.specs.Targets.{unheld, recordOf, recordsOf, Marked};
-use group::MEMBERS;
+use rules::MEMBERS;
 use rules::Place;
+use rules::SLOTS;
 use slots::SlotSet;
 
 // Whether the set of a place changes, and the set that it then has.
@@ -43,7 +44,7 @@ impl Marks {
 }
 
 // The places at which two targets differ: a place that is not marked has the same set in both.
-pub fn changed_places<'a>(before: &'a [u8; 1024], after: &'a [u8; 1024]) -> Marks
+pub fn changed_places<'a>(before: &'a [u8; SLOTS], after: &'a [u8; SLOTS]) -> Marks
     requires { ⌜ (length (now before) ≡ slotCount) × (length (now after) ≡ slotCount) ⌝ }
     ensures { λ r. ⌜ Marked (r .at) (now (before .entry)) (now (after .entry)) ⌝ }
 {
@@ -51,7 +52,7 @@ pub fn changed_places<'a>(before: &'a [u8; 1024], after: &'a [u8; 1024]) -> Mark
         at: [false; MEMBERS],
     };
     let mut s: usize = 0;
-    while s < 1024 {
+    while s < SLOTS {
         let old = before[s];
         let new = after[s];
         s += 1;
@@ -64,7 +65,7 @@ pub fn changed_places<'a>(before: &'a [u8; 1024], after: &'a [u8; 1024]) -> Mark
 }
 
 // What becomes of the set of place p; only the sets of a marked place are gathered.
-fn retarget_of<'a>(mark: bool, p: u8, before: &'a [u8; 1024], after: &'a [u8; 1024]) -> Retarget
+fn retarget_of<'a>(mark: bool, p: u8, before: &'a [u8; SLOTS], after: &'a [u8; SLOTS]) -> Retarget
     requires { ⌜ (length (now before) ≡ slotCount) × (length (now after) ≡ slotCount) × (mark ≡ false → setM p (unheld (now before)) ≡ setM p (unheld (now after))) ⌝ }
     ensures { λ r. ⌜ onlyIf (r .changes) (targetIs p (slotsOf (r .set .words))) ≡ recordOf (now (before .entry)) (now (after .entry)) p ⌝ }
 {
@@ -85,7 +86,7 @@ fn retarget_of<'a>(mark: bool, p: u8, before: &'a [u8; 1024], after: &'a [u8; 10
 }
 
 // How many bytes the records 7 take.
-fn targets_len<'a>(marks: Marks, before: &'a [u8; 1024], after: &'a [u8; 1024]) -> usize
+fn targets_len<'a>(marks: Marks, before: &'a [u8; SLOTS], after: &'a [u8; SLOTS]) -> usize
     requires { ⌜ Marked (marks .at) (now before) (now after) ⌝ }
     ensures { λ r. ⌜ (r ≡ length (allBytes (recordsOf (now (before .entry)) (now (after .entry))))) × (r ≤ (2 * slotCount + 11) * maxMembers) ⌝ }
 {
@@ -105,8 +106,8 @@ fn targets_len<'a>(marks: Marks, before: &'a [u8; 1024], after: &'a [u8; 1024]) 
 // How many bytes the records of an install take.
 pub fn install_len<'a>(
     marks: Marks,
-    before: &'a [u8; 1024],
-    after: &'a [u8; 1024],
+    before: &'a [u8; SLOTS],
+    after: &'a [u8; SLOTS],
     epoch: u32,
 ) -> usize
     requires { ⌜ Marked (marks .at) (now before) (now after) ⌝ }
@@ -120,8 +121,8 @@ pub fn install_len<'a>(
 fn put_targets<'a>(
     buf: &mut [u8],
     marks: Marks,
-    before: &'a [u8; 1024],
-    after: &'a [u8; 1024],
+    before: &'a [u8; SLOTS],
+    after: &'a [u8; SLOTS],
 ) -> usize
     requires { ⌜ Marked (marks .at) (now before) (now after) × (length (allBytes (recordsOf (now before) (now after))) ≤ length (now buf)) ⌝ }
     ensures { λ r. ⌜ Wrote (allBytes (recordsOf (now (before .entry)) (now (after .entry)))) (now (buf .entry)) (now (buf .exit)) r ⌝ }
@@ -143,8 +144,8 @@ fn put_targets<'a>(
 pub fn put_install<'a>(
     buf: &mut [u8],
     marks: Marks,
-    before: &'a [u8; 1024],
-    after: &'a [u8; 1024],
+    before: &'a [u8; SLOTS],
+    after: &'a [u8; SLOTS],
     epoch: u32,
 ) -> usize
     requires { ⌜ Marked (marks .at) (now before) (now after) × (length (allBytes (installRecords (unheld (now before)) (unheld (now after)) epoch)) ≤ length (now buf)) ⌝ }

@@ -13,7 +13,6 @@ ghost use Rattle.tables.specs.View.{viewTables};
 ghost use Rattle.group.specs.View.{view};
 ghost use Rattle.events.specs.Outcomes.{took, subscriptionOf, requestOf, carried, stepAs};
 ghost use Rattle.joining.specs.Joining.{Chooses};
-use events::INTERVAL;
 use events::Outcome;
 use events::Request;
 use events::refused;
@@ -29,6 +28,8 @@ use group::ticks;
 use records::batches;
 use rules::Answer;
 use rules::Assignment;
+use rules::HEARTBEAT_INTERVAL;
+use rules::Id;
 use rules::Place;
 use rules::Refusal;
 use tables::Tables;
@@ -66,7 +67,7 @@ fn is_bad_join(b: Request, owned: &[u16]) -> bool
 }
 
 // The place of the member with an ID, or else the lowest free one.
-fn choose_place(g: Group, id: [u8; 16]) -> Choice
+fn choose_place(g: Group, id: Id) -> Choice
     ensures { λ r. ⌜ Chooses (view g) id r ⌝ }
 {
     let own = seats::find_member(g, id);
@@ -135,7 +136,7 @@ fn join_at(g: Group, p: Place, known: bool, b: Request, records: &mut [u8]) -> O
         group: changes::with_seat(g, p, seat, after, epoch, b.tick),
         answer: Answer::Assigned(Assignment {
             epoch: epoch,
-            interval: INTERVAL,
+            interval: HEARTBEAT_INTERVAL,
             count: 0,
         }),
         written: written,

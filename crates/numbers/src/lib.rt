@@ -5,6 +5,8 @@ ghost use Prim.Native.Nat.{_+_, _≤_};
 ghost use lib.ListN.{length};
 ghost use Rattle.rules.specs.Records.{number};
 ghost use Rattle.numbers.specs.Buffer.{Wrote, WroteAt};
+use rules::ID_LENGTH;
+use rules::Id;
 
 // Writes `x` at the start of `buf` and returns how many bytes that took.
 pub fn put_number(buf: &mut [u8], x: u32) -> usize
@@ -44,20 +46,20 @@ pub fn number_len(x: u32) -> usize
 }
 
 // Writes the 16 bytes of an ID at the start of `buf` and returns 16.
-pub fn put_id(buf: &mut [u8], id: [u8; 16]) -> usize
+pub fn put_id(buf: &mut [u8], id: Id) -> usize
     requires { ⌜ length id ≤ length (now buf) ⌝ }
     ensures { λ r. ⌜ Wrote id (now (buf .entry)) (now (buf .exit)) r ⌝ }
 {
     let mut i: usize = 0;
-    while i < 16 {
+    while i < ID_LENGTH {
         buf[i] = id[i];
         i += 1;
     }
-    16
+    ID_LENGTH
 }
 
 // Writes the 16 bytes of an ID at the place `at` and returns the place after them.
-pub fn put_id_at(buf: &mut [u8], at: usize, id: [u8; 16]) -> usize
+pub fn put_id_at(buf: &mut [u8], at: usize, id: Id) -> usize
     requires { ⌜ at + length id ≤ length (now buf) ⌝ }
     ensures { λ r. ⌜ WroteAt id at (now (buf .entry)) (now (buf .exit)) r ⌝ }
 {

@@ -14,7 +14,6 @@ ghost use Rattle.ordinary.specs.Plans.{planned, ordinaryAt};
 mod plan; // plan.rt: what the heartbeat comes to, decided before anything is written
 
 use crate::plan::Plan;
-use events::INTERVAL;
 use events::Outcome;
 use events::Request;
 use events::refused;
@@ -29,6 +28,7 @@ use group::ticks;
 use records::batches;
 use rules::Answer;
 use rules::Assignment;
+use rules::HEARTBEAT_INTERVAL;
 use rules::Place;
 use rules::Refusal;
 
@@ -93,7 +93,7 @@ fn carry(g: Group, p: Place, tick: u32, k: Plan, records: &mut [u8], list: &mut 
         group: next,
         answer: Answer::Assigned(Assignment {
             epoch: m.epoch,
-            interval: INTERVAL,
+            interval: HEARTBEAT_INTERVAL,
             count: count,
         }),
         written: written,

@@ -19,6 +19,7 @@ use rules::Place;
 use tables::Advance;
 use tables::PlaceSets;
 use tables::Tables;
+use tables::bools::either;
 
 // The member and the tables after the heartbeat, the group epoch after it, and which records are stored: 5 if the subscription or the timeout is
 // updated, 3 if the group epoch rises, 8 if E, A or P moves.
@@ -29,15 +30,6 @@ pub struct Plan {
     pub updates: bool,
     pub raises: bool,
     pub moves: bool,
-}
-
-fn either(a: bool, b: bool) -> bool
-    ensures { λ r. ⌜ r ≡ (a || b) ⌝ }
-{
-    if a {
-        return true;
-    }
-    b
 }
 
 // The subscription that is given, or else the one there was.

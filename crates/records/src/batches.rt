@@ -12,6 +12,7 @@ ghost use Rattle.slots.specs.Set.{slotsOf};
 ghost use Rattle.records.specs.Stored.{ordinaryStored};
 use crate::kinds;
 use crate::optional;
+use rules::Id;
 use rules::Place;
 use slots::SlotSet;
 
@@ -19,7 +20,7 @@ use slots::SlotSet;
 pub fn put_topic_records(
     buf: &mut [u8],
     topic: u32,
-    id: [u8; 16],
+    id: Id,
     count: u32,
     changes: bool,
     raises: bool,
@@ -34,7 +35,7 @@ pub fn put_topic_records(
 
 pub fn topic_records_len(
     topic: u32,
-    id: [u8; 16],
+    id: Id,
     count: u32,
     changes: bool,
     raises: bool,
@@ -104,7 +105,7 @@ pub fn put_join_records(
     buf: &mut [u8],
     place: Place,
     retargets: bool,
-    id: [u8; 16],
+    id: Id,
     timeout: u32,
     subscription: u16,
     epoch: u32,
@@ -121,7 +122,7 @@ pub fn put_join_records(
 pub fn join_records_len(
     place: Place,
     retargets: bool,
-    id: [u8; 16],
+    id: Id,
     timeout: u32,
     subscription: u16,
     epoch: u32,
@@ -139,7 +140,7 @@ pub fn put_ordinary_records(
     buf: &mut [u8],
     place: Place,
     updates: bool,
-    id: [u8; 16],
+    id: Id,
     timeout: u32,
     subscription: u16,
     raises: bool,
@@ -160,7 +161,7 @@ pub fn put_ordinary_records(
 pub fn ordinary_records_len(
     place: Place,
     updates: bool,
-    id: [u8; 16],
+    id: Id,
     timeout: u32,
     subscription: u16,
     raises: bool,

@@ -10,6 +10,7 @@ ghost use Rattle.numbers.specs.Buffer.{Wrote};
 ghost use Rattle.slots.specs.Set.{slotsOf};
 ghost use Rattle.records.specs.Fields.{numbers};
 use crate::sets;
+use rules::Id;
 use rules::Place;
 use slots::SlotSet;
 
@@ -48,7 +49,7 @@ pub fn group_epoch_len(epoch: u32) -> usize
 }
 
 // Record 4: a topic.
-pub fn put_topic(buf: &mut [u8], topic: u32, id: [u8; 16], count: u32) -> usize
+pub fn put_topic(buf: &mut [u8], topic: u32, id: Id, count: u32) -> usize
     requires { ⌜ length (bytesOf (topicIs topic id count)) ≤ length (now buf) ⌝ }
     ensures { λ r. ⌜ Wrote (bytesOf (topicIs topic id count)) (now (buf .entry)) (now (buf .exit)) r ⌝ }
 {
@@ -59,20 +60,14 @@ pub fn put_topic(buf: &mut [u8], topic: u32, id: [u8; 16], count: u32) -> usize
 }
 
 // How many bytes record 4 takes; the kind and the ID take 17 of them.
-pub fn topic_len(topic: u32, id: [u8; 16], count: u32) -> usize
+pub fn topic_len(topic: u32, id: Id, count: u32) -> usize
     ensures { λ r. ⌜ (r ≡ length (bytesOf (topicIs topic id count))) × (r ≤ 27) ⌝ }
 {
     17 + numbers::number_len(topic) + numbers::number_len(count)
 }
 
 // Record 5: a member.
-pub fn put_member(
-    buf: &mut [u8],
-    place: Place,
-    id: [u8; 16],
-    timeout: u32,
-    subscription: u16,
-) -> usize
+pub fn put_member(buf: &mut [u8], place: Place, id: Id, timeout: u32, subscription: u16) -> usize
     requires { ⌜ length (bytesOf (memberIs (place .0) id timeout subscription)) ≤ length (now buf) ⌝ }
     ensures { λ r. ⌜ Wrote (bytesOf (memberIs (place .0) id timeout subscription)) (now (buf .entry)) (now (buf .exit)) r ⌝ }
 {
@@ -86,7 +81,7 @@ pub fn put_member(
 }
 
 // How many bytes record 5 takes; the kind, the 1 and the ID take 18 of them.
-pub fn member_len(place: Place, id: [u8; 16], timeout: u32, subscription: u16) -> usize
+pub fn member_len(place: Place, id: Id, timeout: u32, subscription: u16) -> usize
     ensures { λ r. ⌜ (r ≡ length (bytesOf (memberIs (place .0) id timeout subscription))) × (r ≤ 33) ⌝ }
 {
     let p = place.0;

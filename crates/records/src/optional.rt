@@ -9,6 +9,7 @@ ghost use Rattle.rules.specs.Effects.{onlyIf};
 ghost use Rattle.numbers.specs.Buffer.{Wrote};
 ghost use Rattle.slots.specs.Set.{slotsOf};
 use crate::kinds;
+use rules::Id;
 use rules::Place;
 use slots::SlotSet;
 
@@ -33,7 +34,7 @@ pub fn group_epoch_len_if(on: bool, epoch: u32) -> usize
 }
 
 // Record 4.
-pub fn put_topic_if(buf: &mut [u8], on: bool, topic: u32, id: [u8; 16], count: u32) -> usize
+pub fn put_topic_if(buf: &mut [u8], on: bool, topic: u32, id: Id, count: u32) -> usize
     requires { ⌜ length (allBytes (onlyIf on (topicIs topic id count))) ≤ length (now buf) ⌝ }
     ensures { λ r. ⌜ Wrote (allBytes (onlyIf on (topicIs topic id count))) (now (buf .entry)) (now (buf .exit)) r ⌝ }
 {
@@ -43,7 +44,7 @@ pub fn put_topic_if(buf: &mut [u8], on: bool, topic: u32, id: [u8; 16], count: u
     0
 }
 
-pub fn topic_len_if(on: bool, topic: u32, id: [u8; 16], count: u32) -> usize
+pub fn topic_len_if(on: bool, topic: u32, id: Id, count: u32) -> usize
     ensures { λ r. ⌜ (r ≡ length (allBytes (onlyIf on (topicIs topic id count)))) × (r ≤ 27) ⌝ }
 {
     if on {
@@ -57,7 +58,7 @@ pub fn put_member_if(
     buf: &mut [u8],
     on: bool,
     place: Place,
-    id: [u8; 16],
+    id: Id,
     timeout: u32,
     subscription: u16,
 ) -> usize
@@ -70,7 +71,7 @@ pub fn put_member_if(
     0
 }
 
-pub fn member_len_if(on: bool, place: Place, id: [u8; 16], timeout: u32, subscription: u16) -> usize
+pub fn member_len_if(on: bool, place: Place, id: Id, timeout: u32, subscription: u16) -> usize
     ensures { λ r. ⌜ (r ≡ length (allBytes (onlyIf on (memberIs (place .0) id timeout subscription)))) × (r ≤ 33) ⌝ }
 {
     if on {

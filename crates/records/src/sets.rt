@@ -7,10 +7,8 @@ ghost use Rattle.rules.specs.Constants.{slotCount};
 ghost use Rattle.rules.specs.Records.{differences, setBytes};
 ghost use Rattle.numbers.specs.Buffer.{Wrote, WroteAt};
 ghost use Rattle.slots.specs.Set.{slotsOf};
+use rules::SLOT_END;
 use slots::SlotSet;
-
-// The number of slots.
-const SLOTS: u16 = 1024;
 
 // Writes the lowest slot and then each difference at the start of `buf`, and returns how many bytes that took.
 fn put_differences(buf: &mut [u8], set: SlotSet) -> usize
@@ -20,7 +18,7 @@ fn put_differences(buf: &mut [u8], set: SlotSet) -> usize
     let mut at: usize = 0;
     let mut last: u16 = 0;
     let mut slot = set.next(0);
-    while slot < SLOTS {
+    while slot < SLOT_END {
         at = numbers::put_number_at(buf, at, (slot - last) as u32);
         last = slot;
         slot = set.next(slot + 1);
@@ -35,7 +33,7 @@ fn differences_len(set: SlotSet) -> usize
     let mut n: usize = 0;
     let mut last: u16 = 0;
     let mut slot = set.next(0);
-    while slot < SLOTS {
+    while slot < SLOT_END {
         n += numbers::number_len((slot - last) as u32);
         last = slot;
         slot = set.next(slot + 1);

@@ -9,13 +9,15 @@ ghost use Rattle.rules.specs.Basics.{same};
 ghost use Rattle.rules.specs.Constants.{slotCount};
 ghost use Rattle.numbers.specs.Buffer.{Wrote};
 ghost use Rattle.slots.specs.Set.{has, slotsOf, listed, TellsEmpty, TellsSubset, NextFrom};
+use rules::SLOT_END;
+use rules::SLOTS;
 use rules::Slot;
 
-// The number of slots.
-const SLOTS: u16 = 1024;
+// A set takes so many words of 64 slots.
+pub const WORDS: usize = 16;
 
 pub struct SlotSet {
-    pub words: [u64; 16],
+    pub words: [u64; WORDS],
 }
 
 impl SlotSet {
@@ -23,7 +25,7 @@ impl SlotSet {
     pub fn empty() -> SlotSet
         ensures { λ r. ⌜ ((s : ℕ) → has (r .words) s ≡ false) ⌝ }
     {
-        SlotSet { words: [0; 16] }
+        SlotSet { words: [0; WORDS] }
     }
 
     pub fn contains(self, slot: Slot) -> bool
@@ -68,7 +70,7 @@ impl SlotSet {
         ensures { λ r. ⌜ ((s : ℕ) → has (r .words) s ≡ (has (self .words) s || has (other .words) s)) ⌝ }
     {
         let mut r = self;
-        for i in 0..16 {
+        for i in 0..WORDS {
             r.words[i] = r.words[i] | other.words[i];
         }
         r
@@ -79,7 +81,7 @@ impl SlotSet {
         ensures { λ r. ⌜ ((s : ℕ) → has (r .words) s ≡ (has (self .words) s && not (has (other .words) s))) ⌝ }
     {
         let mut r = self;
-        for i in 0..16 {
+        for i in 0..WORDS {
             r.words[i] = r.words[i] & !other.words[i];
         }
         r
@@ -91,7 +93,7 @@ impl SlotSet {
         ensures { λ r. ⌜ NextFrom (self .words) from r ⌝ }
     {
         let mut s = from;
-        while s < SLOTS {
+        while s < SLOT_END {
             let i = (s / 64) as usize;
             let b = s % 64;
             let w = self.words[i] >> b;
@@ -113,7 +115,7 @@ impl SlotSet {
     pub fn is_empty(self) -> bool
         ensures { λ r. ⌜ TellsEmpty (self .words) r ⌝ }
     {
-        self.lowest() == SLOTS
+        self.lowest() == SLOT_END
     }
 
     // Whether each slot of the set is in `other`.
@@ -139,7 +141,7 @@ impl SlotSet {
     {
         let mut n: u32 = 0;
         let mut s = self.next(0);
-        while s < SLOTS {
+        while s < SLOT_END {
             n += 1;
             s = self.next(s + 1);
         }
@@ -154,7 +156,7 @@ pub fn list_slots(out: &mut [u16], a: SlotSet) -> usize
 {
     let mut at: usize = 0;
     let mut s = a.next(0);
-    while s < SLOTS {
+    while s < SLOT_END {
         out[at] = s;
         at += 1;
         s = a.next(s + 1);
@@ -171,7 +173,7 @@ pub fn of_list(list: &[u16]) -> SlotSet
     while i < list.len() {
         let x = list[i];
         i += 1;
-        if x < SLOTS {
+        if x < SLOT_END {
             r = r.insert(Slot(x));
         }
     }
@@ -179,13 +181,13 @@ pub fn of_list(list: &[u16]) -> SlotSet
 }
 
 // The slots at which a table has a value.
-pub fn gather(table: &[u8; 1024], value: u8) -> SlotSet
+pub fn gather(table: &[u8; SLOTS], value: u8) -> SlotSet
     requires { ⌜ length (now table) ≡ slotCount ⌝ }
     ensures { λ r. ⌜ ((s : ℕ) → s < slotCount → has (r .words) s ≡ eqb (getD (now (table .entry)) s 0) value) ⌝ }
 {
     let mut r = SlotSet::empty();
     let mut s: u16 = 0;
-    while s < SLOTS {
+    while s < SLOT_END {
         let here = s;
         s += 1;
         if table[here as usize] == value {

@@ -20,13 +20,13 @@ mod overdue; // overdue.rt: which places a sweep removes
 use events::Outcome;
 use events::refused;
 use group::Group;
-use group::MEMBERS;
 use group::changes;
 use group::epochs;
 use group::ticks;
 use records::batches;
 use records::optional;
 use rules::Answer;
+use rules::MEMBERS;
 use rules::Place;
 use rules::Refusal;
 

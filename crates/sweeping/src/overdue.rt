@@ -12,9 +12,10 @@ ghost use Rattle.tables.specs.View.{viewLists};
 ghost use Rattle.group.specs.View.{view, viewSeat};
 ghost use Rattle.sweeping.specs.Marks.{Marks, marked};
 use group::Group;
-use group::MEMBERS;
 use group::Seat;
 use group::seats;
+use rules::MEMBERS;
+use rules::SLOTS;
 
 // A place, as tables have it, as an index.
 fn index(p: u8) -> usize
@@ -24,13 +25,13 @@ fn index(p: u8) -> usize
 }
 
 // The places that hold some slot which they are to give back.
-fn revoking_places<'a>(holder: &'a [u8; 1024], waiting: &'a [bool; 1024]) -> [bool; MEMBERS]
+fn revoking_places<'a>(holder: &'a [u8; SLOTS], waiting: &'a [bool; SLOTS]) -> [bool; MEMBERS]
     requires { ⌜ (length (now holder) ≡ slotCount) × (length (now waiting) ≡ slotCount) ⌝ }
     ensures { λ r. ⌜ ((ts : List ℕ) → length ts ≡ slotCount → Marks revoking (viewLists ts (now (holder .entry)) (now (waiting .entry))) r) ⌝ }
 {
     let mut marks = [false; MEMBERS];
     let mut next: usize = 0;
-    while next < 1024 {
+    while next < SLOTS {
         let s = next;
         next += 1;
         if waiting[s] {
@@ -44,13 +45,13 @@ fn revoking_places<'a>(holder: &'a [u8; 1024], waiting: &'a [bool; 1024]) -> [bo
 }
 
 // The places that are the target of some slot.
-pub fn target_places(target: &[u8; 1024]) -> [bool; MEMBERS]
+pub fn target_places(target: &[u8; SLOTS]) -> [bool; MEMBERS]
     requires { ⌜ length (now target) ≡ slotCount ⌝ }
     ensures { λ r. ⌜ ((hs : List ℕ) (ws : List Bool) → length hs ≡ slotCount → length ws ≡ slotCount → Marks targeted (viewLists (now (target .entry)) hs ws) r) ⌝ }
 {
     let mut marks = [false; MEMBERS];
     let mut next: usize = 0;
-    while next < 1024 {
+    while next < SLOTS {
         let p = index(target[next]);
         next += 1;
         if p < MEMBERS {

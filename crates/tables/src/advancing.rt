@@ -10,8 +10,10 @@ ghost use Rattle.rules.specs.Group.{SlotState};
 ghost use Rattle.slots.specs.Set.{has};
 ghost use Rattle.tables.specs.Gathers.{Gathers};
 ghost use Rattle.tables.specs.Advances.{ownedOf, Advances};
+use crate::bools::both;
+use crate::bools::either;
 use crate::gathering::PlaceSets;
-use crate::gathering::both;
+use rules::SLOT_END;
 use rules::Slot;
 use slots::SlotSet;
 
@@ -26,20 +28,11 @@ pub struct Advance {
     pub changed: bool,
 }
 
-fn either(a: bool, b: bool) -> bool
-    ensures { λ r. ⌜ r ≡ (a || b) ⌝ }
-{
-    if a {
-        return true;
-    }
-    b
-}
-
 // Whether slot s, which may be any number, is in the set.
 fn holds(set: SlotSet, s: u16) -> bool
     ensures { λ r. ⌜ r ≡ has (set .words) s ⌝ }
 {
-    if s < 1024 {
+    if s < SLOT_END {
         return set.contains(Slot(s));
     }
     false

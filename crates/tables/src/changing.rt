@@ -10,7 +10,9 @@ ghost use Rattle.tables.specs.View.{viewTables, viewLists};
 ghost use Rattle.tables.specs.Changes.{viewEntry, movedBy, changeBy};
 use crate::Tables;
 use crate::advancing::Advance;
+use rules::NO_PLACE;
 use rules::Place;
+use rules::SLOTS;
 
 // The entries of the tables for one slot.
 pub struct Entry {
@@ -30,7 +32,7 @@ fn without(entry: u8, p: u8) -> u8
     ensures { λ r. ⌜ r ≡ (if eqb entry p then noPlace else entry) ⌝ }
 {
     if entry == p {
-        return 255;
+        return NO_PLACE;
     }
     entry
 }
@@ -42,7 +44,7 @@ fn vacate_one(e: Entry, p: u8) -> Entry
     if e.holder == p {
         return Entry {
             target: target,
-            holder: 255,
+            holder: NO_PLACE,
             waiting: false,
         };
     }
@@ -61,7 +63,7 @@ fn free_one(e: Entry, frees: bool, p: u8) -> Entry
             if e.waiting {
                 return Entry {
                     target: e.target,
-                    holder: 255,
+                    holder: NO_PLACE,
                     waiting: false,
                 };
             }
@@ -91,7 +93,7 @@ fn claim_one(e: Entry, p: u8) -> Entry
     ensures { λ r. ⌜ viewEntry r ≡ claimed p (viewEntry e) ⌝ }
 {
     if e.target == p {
-        if e.holder == 255 {
+        if e.holder == NO_PLACE {
             return Entry {
                 target: e.target,
                 holder: p,
@@ -122,9 +124,9 @@ fn change_one(what: Change, e: Entry, p: u8) -> Entry
 }
 
 fn change_lists(
-    target: [u8; 1024],
-    holder: [u8; 1024],
-    waiting: [bool; 1024],
+    target: [u8; SLOTS],
+    holder: [u8; SLOTS],
+    waiting: [bool; SLOTS],
     what: Change,
     p: u8,
 ) -> Tables
@@ -134,7 +136,7 @@ fn change_lists(
     let mut h = holder;
     let mut w = waiting;
     let mut i = crate::searching::next_near(&t, &h, p, 0);
-    while i < 1024 {
+    while i < SLOTS {
         let e = Entry {
             target: t[i],
             holder: h[i],
@@ -189,7 +191,7 @@ impl Tables {
     }
 
     // Another target; who holds what stays.
-    pub fn retarget(self, target: [u8; 1024]) -> Tables
+    pub fn retarget(self, target: [u8; SLOTS]) -> Tables
         ensures { λ r. ⌜ viewTables r ≡ retargeted (viewTables self) target ⌝ }
     {
         let holder = self.holder;

@@ -9,8 +9,12 @@ ghost use Rattle.slots.specs.Set.{bit};
 ghost use Rattle.tables.specs.View.{viewTables, viewLists};
 ghost use Rattle.tables.specs.Gathers.{Gathers};
 use crate::Tables;
+use crate::bools::both;
+use rules::NO_PLACE;
 use rules::Place;
+use rules::SLOTS;
 use slots::SlotSet;
+use slots::WORDS;
 
 // A, P and M of a place, and the slots of M that nobody holds.
 pub struct PlaceSets {
@@ -31,30 +35,21 @@ fn mark(word: u64, b: u64, on: bool) -> u64
     word
 }
 
-pub fn both(a: bool, b: bool) -> bool
-    ensures { λ r. ⌜ r ≡ (a && b) ⌝ }
-{
-    if a {
-        return b;
-    }
-    false
-}
-
 pub fn gather_lists<'a>(
-    target: &'a [u8; 1024],
-    holder: &'a [u8; 1024],
-    waiting: &'a [bool; 1024],
+    target: &'a [u8; SLOTS],
+    holder: &'a [u8; SLOTS],
+    waiting: &'a [bool; SLOTS],
     p: u8,
 ) -> PlaceSets
     requires { ⌜ (length (now target) ≡ slotCount) × (length (now holder) ≡ slotCount) × (length (now waiting) ≡ slotCount) ⌝ }
     ensures { λ r. ⌜ Gathers p (viewLists (now (target .entry)) (now (holder .entry)) (now (waiting .entry))) r ⌝ }
 {
-    let mut assigned: [u64; 16] = [0; 16];
-    let mut revoking: [u64; 16] = [0; 16];
-    let mut targets: [u64; 16] = [0; 16];
-    let mut claimable: [u64; 16] = [0; 16];
+    let mut assigned: [u64; WORDS] = [0; WORDS];
+    let mut revoking: [u64; WORDS] = [0; WORDS];
+    let mut targets: [u64; WORDS] = [0; WORDS];
+    let mut claimable: [u64; WORDS] = [0; WORDS];
     let mut s = crate::searching::next_near(target, holder, p, 0);
-    while s < 1024 {
+    while s < SLOTS {
         let k = s / 64;
         let b = (s % 64) as u64;
         let h = holder[s];
@@ -63,7 +58,7 @@ pub fn gather_lists<'a>(
         assigned[k] = mark(assigned[k], b, both(h == p, !w));
         revoking[k] = mark(revoking[k], b, both(h == p, w));
         targets[k] = mark(targets[k], b, t == p);
-        claimable[k] = mark(claimable[k], b, both(t == p, h == 255));
+        claimable[k] = mark(claimable[k], b, both(t == p, h == NO_PLACE));
         s = crate::searching::next_near(target, holder, p, s + 1);
     }
     PlaceSets {

@@ -6,6 +6,10 @@ ghost use Prim.Native.Nat.{ℕ, _+_, _≤_, _<_};
 ghost use lib.ListN.{length, getD};
 ghost use Rattle.rules.specs.Constants.{slotCount};
 ghost use Rattle.tables.specs.Places.{near, NoneNear};
+use rules::SLOTS;
+
+// The last slot at which eight begin.
+const LAST_EIGHT: usize = SLOTS - 8;
 
 // 0 only where the slot is not near p.
 fn near_mark(target: u8, holder: u8, p: u8) -> u8
@@ -21,7 +25,7 @@ fn near_mark(target: u8, holder: u8, p: u8) -> u8
 }
 
 // Whether it is sure that none of the eight slots from `from` on is near p.
-fn none_near<'a>(target: &'a [u8; 1024], holder: &'a [u8; 1024], p: u8, from: usize) -> bool
+fn none_near<'a>(target: &'a [u8; SLOTS], holder: &'a [u8; SLOTS], p: u8, from: usize) -> bool
     requires { ⌜ (length (now target) ≡ slotCount) × (length (now holder) ≡ slotCount) × (from + 8 ≤ slotCount) ⌝ }
     ensures { λ r. ⌜ (r ≡ true → NoneNear p (now (target .entry)) (now (holder .entry)) from (from + 8)) ⌝ }
 {
@@ -36,12 +40,12 @@ fn none_near<'a>(target: &'a [u8; 1024], holder: &'a [u8; 1024], p: u8, from: us
 }
 
 // The slot that is reached by stepping over eights of which none is near p.
-fn skip_far<'a>(target: &'a [u8; 1024], holder: &'a [u8; 1024], p: u8, from: usize) -> usize
+fn skip_far<'a>(target: &'a [u8; SLOTS], holder: &'a [u8; SLOTS], p: u8, from: usize) -> usize
     requires { ⌜ (length (now target) ≡ slotCount) × (length (now holder) ≡ slotCount) × (from ≤ slotCount) ⌝ }
     ensures { λ r. ⌜ (from ≤ r) × (r ≤ slotCount) × NoneNear p (now (target .entry)) (now (holder .entry)) from r ⌝ }
 {
     let mut i = from;
-    while i <= 1016 {
+    while i <= LAST_EIGHT {
         if none_near(target, holder, p, i) {
             i += 8;
         } else {
@@ -52,12 +56,12 @@ fn skip_far<'a>(target: &'a [u8; 1024], holder: &'a [u8; 1024], p: u8, from: usi
 }
 
 // A slot before which, from `from` on, none is near p; at most 1024.
-pub fn next_near<'a>(target: &'a [u8; 1024], holder: &'a [u8; 1024], p: u8, from: usize) -> usize
+pub fn next_near<'a>(target: &'a [u8; SLOTS], holder: &'a [u8; SLOTS], p: u8, from: usize) -> usize
     requires { ⌜ (length (now target) ≡ slotCount) × (length (now holder) ≡ slotCount) × (from ≤ slotCount) ⌝ }
     ensures { λ r. ⌜ (from ≤ r) × (r ≤ slotCount) × NoneNear p (now (target .entry)) (now (holder .entry)) from r ⌝ }
 {
     let mut i = skip_far(target, holder, p, from);
-    while i < 1024 {
+    while i < SLOTS {
         if near_mark(target[i], holder[i], p) != 0 {
             return i;
         }

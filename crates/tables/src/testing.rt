@@ -11,22 +11,24 @@ ghost use Rattle.slots.specs.Set.{slotsOf};
 ghost use Rattle.tables.specs.View.{viewTables};
 ghost use Rattle.tables.specs.Places.{holderNot};
 use crate::Tables;
+use rules::NO_PLACE;
 use rules::Place;
+use rules::SLOTS;
 use slots::SlotSet;
 
 // The holder of slot s, which may be any number; 255 for a number that is no slot.
-fn holder_at(holder: &[u8; 1024], s: u16) -> u8
+fn holder_at(holder: &[u8; SLOTS], s: u16) -> u8
     requires { ⌜ length (now holder) ≡ slotCount ⌝ }
     ensures { λ r. ⌜ r ≡ getD (now (holder .entry)) s noPlace ⌝ }
 {
     let i = s as usize;
-    if i < 1024 {
+    if i < SLOTS {
         return holder[i];
     }
-    255
+    NO_PLACE
 }
 
-fn any_unheld<'a>(holder: &'a [u8; 1024], list: &'a [u16], p: u8) -> bool
+fn any_unheld<'a>(holder: &'a [u8; SLOTS], list: &'a [u16], p: u8) -> bool
     requires { ⌜ length (now holder) ≡ slotCount ⌝ }
     ensures { λ r. ⌜ r ≡ any (λ s. not (eqb (getD (now (holder .entry)) s noPlace) p)) (now (list .entry)) ⌝ }
 {

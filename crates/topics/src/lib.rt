@@ -16,17 +16,11 @@ use group::changes;
 use group::epochs;
 use records::batches;
 use rules::Answer;
+use rules::Id;
 use rules::Refusal;
 
 // A topic that no row refuses; `raises`: the group epoch rises.
-fn topic_at(
-    g: Group,
-    number: u32,
-    id: [u8; 16],
-    count: u32,
-    raises: bool,
-    records: &mut [u8],
-) -> Outcome
+fn topic_at(g: Group, number: u32, id: Id, count: u32, raises: bool, records: &mut [u8]) -> Outcome
     requires { ⌜ (topicBad (view g) number id count ≡ false) × (raises ≡ topicRaises (view g) number count) × ((topicRaises (view g) number count && atEnd (view g)) ≡ false) ⌝ }
     ensures { λ r. ⌜ ((l : List ℕ) → took r (now (records .exit)) l ≡ carried (view g) (topicEffect (view g) number id count) (now (records .entry)) l) ⌝ }
 {
@@ -45,7 +39,7 @@ fn topic_at(
 }
 
 // The topic of a number, with its ID and its count. The records go to the start of the buffer.
-pub fn topic(g: Group, number: u32, id: [u8; 16], count: u32, records: &mut [u8]) -> Outcome
+pub fn topic(g: Group, number: u32, id: Id, count: u32, records: &mut [u8]) -> Outcome
     ensures { λ r. ⌜ ((l : List ℕ) → took r (now (records .exit)) l ≡ step (view g) (E.topic number id count) (now (records .entry)) l) ⌝ }
 {
     if group::topics::is_bad_topic(g, number, id, count) {
