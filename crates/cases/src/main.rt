@@ -302,7 +302,7 @@ fn ticks() {
 fn nearly_full() -> Group {
     let mut g = coordinator::fresh(1000);
     let mut n: usize = 1;
-    while n < group::MEMBERS {
+    while n < rules::MEMBERS {
         g = joined(g, n as u8, 1000);
         n += 1;
     }
