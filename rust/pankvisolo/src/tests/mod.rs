@@ -5,3 +5,4 @@ mod by_events;
 mod by_numbers;
 mod c_compiler;
 mod c_host;
+mod calls;
