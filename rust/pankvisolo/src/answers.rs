@@ -6,7 +6,7 @@ use crate::protocol::{Answer, Reply};
 use crate::refusal::Refusal;
 
 /// The number of an event that was accepted.
-const ACCEPTED: u32 = 0;
+pub(crate) const ACCEPTED: u32 = 0;
 /// The epoch of an answer to a leave; no member has it.
 const LEFT: i64 = -1;
 

@@ -76,9 +76,12 @@ impl Group {
         answers::of_change(self.keep(&served))
     }
 
-    /// The group that came back is the group from here on.
+    /// The group that came back is the group from here on. A refused event brings back the one that
+    /// went in, which is proved, so that one isn't copied.
     fn keep<'a>(&mut self, served: &'a ffi::Served) -> &'a ffi::Reply {
-        self.value = served.group;
+        if served.reply.number == answers::ACCEPTED {
+            self.value = served.group;
+        }
         &served.reply
     }
 }

@@ -111,7 +111,7 @@ impl Host {
 
 /// G is 31 after the joins and rises by one with each of two raises of topic 0; the places up to
 /// 15 get all partitions, then are told to give the odd ones back, and are heard once more.
-fn events() -> Group {
+pub fn events() -> Group {
     let mut host = Host {
         group: Group::new(7),
         records: vec![0; 4_096],

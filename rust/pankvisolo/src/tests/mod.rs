@@ -6,3 +6,4 @@ mod by_numbers;
 mod c_compiler;
 mod c_host;
 mod calls;
+mod refusals;

@@ -1,0 +1,131 @@
+//! A refused event brings back the group that went in, field by field: every refusal of 01's table,
+//! of every function that gives it. `Group` relies on it, and so may a host in C.
+
+use super::by_events::events;
+use crate::ffi::{self, Group, Id, Request, Seat, Served};
+
+const STRANGER: [u8; 16] = [0x99; 16];
+
+fn refuses(group: &Group, number: u32, event: impl Fn(&Group) -> Served) {
+    let served = event(group);
+    assert_eq!(served.reply.number, number);
+    assert!(served.group == *group, "{number} changed the group");
+}
+
+/// From the member at place 0, and right.
+fn beat(group: &Group) -> Request {
+    Request {
+        id: group.seats[0].id,
+        epoch: group.seats[0].epoch as i32,
+        tick: group.tick,
+        timeout: -1,
+        has_subscription: false,
+        subscription: 0,
+        has_list: false,
+    }
+}
+
+/// From somebody who is no member, and right.
+fn join(group: &Group) -> Request {
+    Request {
+        id: STRANGER,
+        epoch: 0,
+        timeout: 300,
+        has_subscription: true,
+        has_list: true,
+        ..beat(group)
+    }
+}
+
+fn full(group: &Group) -> Group {
+    let mut full = *group;
+    full.seats[31] = Seat {
+        id: [0x77; 16],
+        ..full.seats[30]
+    };
+    full
+}
+
+fn at_the_end(group: &Group) -> Group {
+    Group {
+        epoch: i32::MAX as u32,
+        ..*group
+    }
+}
+
+#[test]
+fn of_a_heartbeat() {
+    let group = events().value;
+    let refuses = |group: &Group, number, request: fn(&Group) -> Request, owned: &[u16]| {
+        refuses(group, number, |group| {
+            ffi::heartbeat(group, request(group), owned, &mut [], &mut [])
+        });
+    };
+    let early = |group: &Group| Request {
+        tick: group.tick - 1,
+        ..beat(group)
+    };
+    let nobodys = |group: &Group| Request {
+        id: [0; 16],
+        ..beat(group)
+    };
+    let strange = |group: &Group| Request {
+        id: STRANGER,
+        ..beat(group)
+    };
+    let fenced = |group: &Group| Request {
+        epoch: 1,
+        ..beat(group)
+    };
+    let listing = |group: &Group| Request {
+        has_list: true,
+        ..beat(group)
+    };
+    refuses(&group, 1001, early, &[]);
+    refuses(&group, 42, nobodys, &[]);
+    refuses(&group, 25, strange, &[]);
+    refuses(&full(&group), 81, join, &[]);
+    refuses(&group, 110, fenced, &[]);
+    refuses(&group, 42, listing, &[1_023]);
+    refuses(&at_the_end(&group), 1002, join, &[]);
+    refuses(&group, 1003, join, &[]);
+    refuses(&group, 1003, beat, &[]);
+}
+
+#[test]
+fn of_a_sweep() {
+    let group = events().value;
+    let at = |tick| move |group: &Group| ffi::sweep(group, tick, &mut []);
+    refuses(&group, 1001, at(group.tick - 1));
+    refuses(&group, 1003, at(group.tick + 45_000));
+}
+
+#[test]
+fn of_a_topic() {
+    let group = events().value;
+    let raised_to = |count| {
+        move |group: &Group| {
+            let bytes = group.topics[0].id;
+            ffi::topic(group, 0, Id { bytes }, count, &mut [])
+        }
+    };
+    refuses(&group, 1007, raised_to(65));
+    refuses(&at_the_end(&group), 1002, raised_to(64));
+    refuses(&group, 1003, raised_to(64));
+}
+
+#[test]
+fn of_an_install() {
+    let group = events().value;
+    let aimed = Group {
+        target_epoch: group.epoch,
+        ..group
+    };
+    let epoch = group.epoch as i32;
+    let of = |epoch, entries| move |group: &Group| ffi::install(group, epoch, entries, &mut []);
+    refuses(&group, 1006, of(epoch, &[]));
+    refuses(&group, 1004, of(epoch - 1, &[255; 1_024]));
+    refuses(&aimed, 1005, of(epoch, &[255; 1_024]));
+    refuses(&group, 1006, of(epoch, &[31; 1_024]));
+    refuses(&group, 1003, of(epoch, &[255; 1_024]));
+}
