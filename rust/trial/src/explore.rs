@@ -69,6 +69,7 @@ fn one_run<S: Coordinator, R: Coordinator>(
             )));
         }
     }
+    tally.lost_answers += world.lost_answers;
     Ok(())
 }
 

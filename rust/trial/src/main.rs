@@ -1,5 +1,5 @@
 //! A trial from the command line:
-//! `cargo run --release -p trial -- --events 10000000 --seed 1`.
+//! `cargo run --manifest-path rust/Cargo.toml --release -p trial -- --events 10000000 --seed 1`.
 
 use std::process::ExitCode;
 use std::time::{Duration, Instant};

@@ -67,7 +67,9 @@ labels! {
         EndOfSubscription = "changed subscription",
         EndOfTopic = "topic",
         RoomForRecords = "the records don't fit the lent buffer",
+        RoomForLastByte = "the buffer is one byte short",
         RoomForSlots = "A doesn't fit the lent list",
+        RoomForLastSlot = "the list is one slot short",
     }
 }
 
@@ -97,7 +99,7 @@ impl Reason {
                 Row::BadTopic
             }
             EndOfJoin | EndOfRejoin | EndOfSubscription | EndOfTopic => Row::EpochEnd,
-            RoomForRecords | RoomForSlots => Row::Room,
+            RoomForRecords | RoomForLastByte | RoomForSlots | RoomForLastSlot => Row::Room,
         }
     }
 
@@ -158,12 +160,13 @@ pub fn before_room<'a>(
 /// The last row: what the event needs is tried on a copy of the group with all the room there is.
 pub fn room<C: Coordinator>(turn: &Turn, group: &C) -> Option<Why> {
     let (bytes, slots) = need(&turn.event, group)?;
-    let reason = if bytes > turn.buffer {
-        Reason::RoomForRecords
-    } else if slots > turn.list {
-        Reason::RoomForSlots
-    } else {
-        return None;
+    let lacking = |need: usize, lent: usize| need.saturating_sub(lent);
+    let reason = match (lacking(bytes, turn.buffer), lacking(slots, turn.list)) {
+        (0, 0) => return None,
+        (0, 1) => Reason::RoomForLastSlot,
+        (0, _) => Reason::RoomForSlots,
+        (1, _) => Reason::RoomForLastByte,
+        _ => Reason::RoomForRecords,
     };
     Some(Why { reason, slot: None })
 }

@@ -81,7 +81,7 @@ impl fmt::Display for Report {
         writeln!(f, "  {}", self.fault)?;
         writeln!(
             f,
-            "again: cargo run --release -p trial -- --seed {seed} --run {run}"
+            "again: cargo run --manifest-path rust/Cargo.toml --release -p trial -- --seed {seed} --run {run}"
         )?;
         let count = self.shortest.turns.len();
         writeln!(f, "the shortest list found, {count} events:")?;

@@ -31,7 +31,9 @@ labels! {
         RemovalAtEnd = "a leave or sweep at G's largest value",
         InstallAtEnd = "an install at G's largest value",
         ExactBuffer = "a buffer of just the records",
+        LongerBuffer = "a buffer one byte longer",
         ExactList = "a list of just the slots",
+        LongerList = "a list one slot longer",
     }
 }
 
@@ -54,7 +56,9 @@ pub fn is_seen(sight: Sight, turn: &Turn, step: &Step) -> bool {
         RemovalAtEnd => before.epoch == i32::MAX && after.members.len() < before.members.len(),
         InstallAtEnd => matches!(turn.event, Event::Install { .. }) && before.epoch == i32::MAX,
         ExactBuffer => turn.buffer > 0 && step.reply.written == turn.buffer,
+        LongerBuffer => turn.buffer > 1 && step.reply.written == turn.buffer - 1,
         ExactList => turn.list > 0 && step.slots.len() == turn.list,
+        LongerList => turn.list > 1 && step.slots.len() == turn.list - 1,
     }
 }
 

@@ -71,6 +71,8 @@ pub struct Tally {
     pub rounds: u64,
     /// Of the three rounds, those in which something had to move.
     pub busy_rounds: u64,
+    /// Answers that never reached the honest client who had sent the heartbeat.
+    pub lost_answers: u64,
     accepted: [u64; Kind::ALL.len()],
     refused: [u64; Reason::ALL.len()],
     /// By the row given and a later one earned besides.
@@ -86,6 +88,7 @@ impl Default for Tally {
             events_in_rounds: 0,
             rounds: 0,
             busy_rounds: 0,
+            lost_answers: 0,
             accepted: [0; Kind::ALL.len()],
             refused: [0; Reason::ALL.len()],
             pairs: [[0; Row::ALL.len()]; Row::ALL.len()],
@@ -170,6 +173,9 @@ impl Tally {
         if self.busy_rounds == 0 {
             never.push("three rounds with something to move".into());
         }
+        if self.lost_answers == 0 {
+            never.push("an answer that got lost".into());
+        }
         never
     }
 }
@@ -178,10 +184,11 @@ impl fmt::Display for Tally {
     fn fmt(&self, f: &mut fmt::Formatter) -> fmt::Result {
         let (events, runs) = (self.events, self.runs);
         let (rounds, in_rounds) = (self.rounds, self.events_in_rounds);
-        let busy = self.busy_rounds;
+        let (busy, lost) = (self.busy_rounds, self.lost_answers);
         writeln!(f, "{events:>10}  events in {runs} runs")?;
         writeln!(f, "{in_rounds:>10}  of them in {rounds} times three rounds")?;
         writeln!(f, "{busy:>10}  of the three rounds had something to move")?;
+        writeln!(f, "{lost:>10}  answers got lost")?;
         writeln!(f, "\nAccepted")?;
         for &kind in Kind::ALL {
             writeln!(f, "{:>10}  {}", self.accepted(kind), kind.label())?;
@@ -224,5 +231,19 @@ fn kind(turn: &Turn, step: &Step) -> Kind {
         (Event::Topic { .. }, _) if is_stored => Kind::Topic,
         (Event::Topic { .. }, _) => Kind::TopicSame,
         (Event::Install { .. }, _) => Kind::Install,
+    }
+}
+
+#[cfg(test)]
+mod tests {
+    use super::*;
+
+    #[test]
+    fn a_trial_of_no_events_has_missed_every_refusal() {
+        let never = Tally::new().never();
+        for &reason in Reason::ALL {
+            let missed = format!("{}: {}", reason.row().label(), reason.label());
+            assert!(never.contains(&missed), "{missed}");
+        }
     }
 }

@@ -25,6 +25,8 @@ pub struct World {
     topic_ids: Vec<Id>,
     /// The client whose heartbeat was made last, if its answer will reach it.
     awaits_answer: Option<usize>,
+    /// Answers to honest heartbeats that got lost so far.
+    pub lost_answers: u64,
 }
 
 impl World {
@@ -41,6 +43,7 @@ impl World {
             clients,
             topic_ids,
             awaits_answer: None,
+            lost_answers: 0,
         }
     }
 
@@ -115,7 +118,9 @@ impl World {
     fn honest<C: Coordinator>(&mut self, group: &C) -> Beat {
         let tick = self.tick(group);
         let sender = self.random.below(self.clients.len());
-        if !self.random.chance(self.profile.lost_per_100, 100) {
+        if self.random.chance(self.profile.lost_per_100, 100) {
+            self.lost_answers += 1;
+        } else {
             self.awaits_answer = Some(sender);
         }
         self.clients[sender].beat(tick, &mut self.random, self.profile)
