@@ -92,6 +92,20 @@ fn the_built_in_example_is_that_of_01() {
     }
 }
 
+/// The README leaves out parts at [..] and has the others, in their order, as they are printed.
+#[test]
+fn the_readme_shows_what_is_printed() {
+    let readme = include_str!("../../../README.md");
+    let (_, excerpt) = readme.split_once("$ ./run\n").unwrap();
+    let (excerpt, _) = excerpt.split_once("```").unwrap();
+    let mut rest = MORNING;
+    for part in excerpt.split("[..]\n").filter(|part| !part.is_empty()) {
+        let shown = rest.split_once(part);
+        assert!(shown.is_some(), "{part}");
+        rest = shown.unwrap().1;
+    }
+}
+
 #[test]
 fn every_refusal_with_its_number_and_name() {
     let output = run(&[&script("refusals.txt")]);

@@ -44,6 +44,11 @@ mod refusal;
 #[cfg(test)]
 mod tests;
 
+/// So that the README's excerpt in Rust is compiled and run with the tests.
+#[cfg(doctest)]
+#[doc = include_str!("../../../README.md")]
+struct Readme;
+
 pub use group::Group;
 pub use protocol::{Answer, Heartbeat, Id, Member, Reply, Topic};
 pub use refusal::Refusal;

@@ -2,13 +2,33 @@
 
 use std::env;
 use std::fs;
-use std::path::Path;
+use std::path::{Path, PathBuf};
 use std::process::{self, Command};
 
-/// What the program c/NAME.c prints. The compiler is `cc`, or what the variable CC says.
+/// What the program c/NAME.c prints.
 pub fn output_of(name: &str) -> String {
-    let package = Path::new(env!("CARGO_MANIFEST_DIR"));
-    let program = env::temp_dir().join(format!("pankvisolo-{}-{name}", process::id()));
+    let folder = Path::new(env!("CARGO_MANIFEST_DIR")).join("c");
+    output_of_file(&folder.join(name).with_extension("c"))
+}
+
+/// What the program with this text prints.
+pub fn output_of_text(name: &str, text: &str) -> String {
+    let source = in_temporary_folder(name).with_extension("c");
+    fs::write(&source, text).expect("the temporary folder takes files");
+    let printed = output_of_file(&source);
+    fs::remove_file(&source).expect("the text is still there");
+    printed
+}
+
+fn in_temporary_folder(name: &str) -> PathBuf {
+    env::temp_dir().join(format!("pankvisolo-{}-{name}", process::id()))
+}
+
+/// The compiler is `cc`, or what the variable CC says.
+fn output_of_file(source: &Path) -> String {
+    let name = source.file_stem().expect("a source has a name");
+    let program = in_temporary_folder(&name.to_string_lossy());
+    let include = Path::new(env!("CARGO_MANIFEST_DIR")).join("../../include");
     let compiler = env::var("CC").unwrap_or_else(|_| "cc".into());
     let mut compile = Command::new(&compiler);
     compile
@@ -21,8 +41,8 @@ pub fn output_of(name: &str) -> String {
             "-pedantic",
         ])
         .arg("-I")
-        .arg(package.join("../../include"))
-        .arg(package.join("c").join(name).with_extension("c"))
+        .arg(include)
+        .arg(source)
         .arg(env!("PANKVISOLO_ARCHIVE"))
         .arg("-o")
         .arg(&program);

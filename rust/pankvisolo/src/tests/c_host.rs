@@ -1,6 +1,6 @@
-//! The worked example in C, as a host in C would run it.
+//! The worked example in C, as a host in C would run it, and the README's few lines.
 
-use super::c_compiler::output_of;
+use super::c_compiler::{output_of, output_of_text};
 
 const PRINTED: &str = "\
 P1: 0, interval 0, epoch 0, count 0, slot 65535
@@ -36,4 +36,16 @@ sweep: 0, interval 0, epoch 0, count 1, slot 65535
 #[test]
 fn p1_to_p4_a_refusal_and_a_sweep() {
     assert_eq!(output_of("morning"), PRINTED);
+}
+
+/// The README's program prints what the README says, between its command and the block's end.
+#[test]
+fn the_program_of_the_readme() {
+    let readme = include_str!("../../../../README.md");
+    let between = |from: &str, to: &str| {
+        let (_, rest) = readme.split_once(from).expect(from);
+        rest.split_once(to).expect(to).0
+    };
+    let printed = output_of_text("readme", between("```c\n", "```"));
+    assert_eq!(printed, between("-o host && ./host\n", "```"));
 }
