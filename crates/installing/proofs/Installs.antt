@@ -1,20 +1,18 @@
--- What an install comes to: its records place by place, the rows of its table in their order, and its effect carried out. A step whose earlier rows do
+-- What an install comes to: its records, the rows of its table in their order, and its effect carried out. A step whose earlier rows do
 -- not apply is refused by the next (`install-stale`, ..), and is carried out where none applies (`install-step`).
-use Prim.Native.Nat.{ℕ, suc, _+_, _-_, _≤_, _<_}
-use native.Mathlib.Omega.{arith}
-use native.Mathlib.Numerals.{add-one}
+use Prim.Native.Nat.{ℕ, _≤_, _<_}
 use mathlib.Core.Path.{_≡_, sym, ap, _∙_}
 use mathlib.Core.Bool.{Bool, true, false, not}
 use mathlib.Core.List.{List, [], _∷_, _++_}
 use lib.IntN.{ℤ}
 use lib.Dec.{eqb}
-use lib.ListN.{length, length-append}
+use lib.ListN.{length}
 use borrow.Author.Tests.{lt-ltb, le-ltb}
 use Rattle.rules.specs.Basics.{concatMap, same, upTo}
 use Rattle.rules.specs.Constants.{maxMembers, slotCount, noSlot}
 use Rattle.rules.specs.Group.{Group, SlotState}
 use Rattle.rules.specs.Event.{install}
-use Rattle.rules.specs.Records.{Record, allBytes, bytesOf, targetIs, targetEpoch}
+use Rattle.rules.specs.Records.{allBytes, bytesOf, targetIs, targetEpoch}
 use Rattle.rules.specs.Answers.{slotNumber}
 use Rattle.rules.specs.Refusals.{table, firstOf, isEpoch, firstBad}
 use Rattle.rules.specs.Effects.{effect, onlyIf, retargeted, targetRecord, installRecords, withTarget, installEffect}
@@ -32,26 +30,7 @@ use Rattle.installing.specs.Targets.{unheld}
 use Rattle.events.proofs.Carrying.{denied}
 use Rattle.installing.proofs.Targets.{viewed}
 
--- ---- records place by place
-
--- the places from i on
-abbrev pub placesFrom : ℕ → List ℕ
-placesFrom i = upTo i (maxMembers - i)
-
-places-next : (i : ℕ) → i < maxMembers → placesFrom i ≡ i ∷ placesFrom (i + 1)
-unfolding upTo
-places-next i h = let e : maxMembers - i ≡ suc (maxMembers - (i + 1)) = omega arith in rw (e, add-one i)
-
-module _ (records : ℕ → List Record) (i : ℕ) where
-  pub bytes-next : i < maxMembers → allBytes (concatMap records (placesFrom i)) ≡ allBytes (records i) ++ allBytes (concatMap records (placesFrom (i + 1)))
-  bytes-next h = ap (λ (ps : List ℕ). allBytes (concatMap records ps)) (places-next i h) ∙ all-append (records i) (concatMap records (placesFrom (i + 1)))
-
-  pub size-next : i < maxMembers → length (allBytes (concatMap records (placesFrom i))) ≡ length (allBytes (records i)) + length (allBytes (concatMap records (placesFrom (i + 1))))
-  size-next h = ap length (bytes-next h) ∙ length-append (allBytes (records i)) _
-
-  pub bytes-done : maxMembers ≤ i → allBytes (concatMap records (placesFrom i)) ≡ []
-  unfolding upTo
-  bytes-done h = let e : maxMembers - i ≡ 0 = omega arith in rw e all-none
+-- ---- the records
 
 module _ (before after : List SlotState) (e : ℕ) where
   abbrev pub installParts : List (List ℕ)

@@ -3,7 +3,7 @@
 use Prim.Native.Nat.{ℕ, zero, suc, _+_, _≤_, _<_}
 use native.Mathlib.Omega.{arith}
 use native.Mathlib.Numerals.{add-one}
-use native.Mathlib.Decide.{ℕ-discrete}
+use native.Mathlib.Decide.{ℕ-discrete, decLt}
 use mathlib.Core.Path.{_≡_, refl, sym, ap, _∙_}
 use mathlib.Core.Bool.{Bool, true, false, _&&_, _||_}
 use mathlib.Core.List.{List}
@@ -35,6 +35,10 @@ unmarked : (n p : ℕ) → getD (replicate n false) p false ≡ false
 unmarked zero p = refl
 unmarked (suc n) zero = refl
 unmarked (suc n) (suc p) = unmarked n p
+
+-- the mark of a place
+abbrev pub mark : List Bool → ℕ → Bool
+mark gone p = getD gone p false
 
 -- ---- any test
 
@@ -118,3 +122,13 @@ module _ (ts hs : List ℕ) (ws : List Bool) (nt : length ts ≡ slotCount) (nh 
 
       pub targeted-past : maxMembers ≤ o → Marking targeted (viewLists ts hs ws) marks (i + 1)
       targeted-past k = mark-none targeted (viewLists ts hs ws) m within (λ p q. there p ∙ ne-eqb o p (λ (x : o ≡ p). omega arith))
+
+-- ---- a table of marks that is filled from its start
+
+pub mark-set : (f : ℕ → Bool) (marks : List Bool) (i : ℕ) (x : Bool) → i < length marks → ((p : ℕ) → p < i → getD marks p false ≡ f p) → x ≡ f i
+    → (p : ℕ) → p < i + 1 → getD (set marks i x) p false ≡ f p
+mark-set f marks i x h e q p l = go (decLt p i)
+  where
+    go : Dec (p < i) → getD (set marks i x) p false ≡ f p
+    go (yes r) = getD-set-other marks i p x false (λ (s : p ≡ i). omega arith) ∙ e p r
+    go (no r) = let s : p ≡ i = omega arith in rw (s, getD-set-same marks i x false h) q

@@ -24,7 +24,7 @@ use Rattle.events.specs.declared.Outcome.{Outcome}
 use Rattle.sweeping.specs.Marks.{Marks, marked, markedRecords}
 use Rattle.events.specs.Outcomes.{took, carried}
 use Rattle.events.proofs.Carrying.{denied}
-use Rattle.sweeping.proofs.Places.{concat-same}
+use Rattle.events.proofs.Places.{concat-same}
 
 -- ---- the row
 

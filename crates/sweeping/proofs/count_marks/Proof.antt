@@ -2,23 +2,25 @@
 use Prim.Native.Nat.{_+_, _-_, _≤_}
 use native.Mathlib.Nat.{zero-add}
 use native.Mathlib.Omega.{arith}
-use mathlib.Core.Path.{_≡_, sym, ap, _∙_}
+use mathlib.Core.Path.{_≡_, ap}
 use lib.ListN.{length}
 use borrow.Author.Needs.{needs}
 use Rattle.rules.specs.Constants.{maxMembers}
 use Rattle.sweeping.specs.Marks.{marked}
-use Rattle.sweeping.proofs.Places.{from, mark, marked-is, from-in, from-out, from-end}
+use Rattle.events.proofs.Places.{pickedFrom, picked-in, picked-out, picked-end}
+use Rattle.sweeping.proofs.Marking.{mark}
 use Rattle.sweeping.proofs.count_marks.Statement.{statement}
 use Rattle.sweeping.proofs.count_marks.Tie as tie
 
 abbrev Inv-loop : tie.InvT-loop
-Inv-loop gone n₀ i₀ n i = (i ≤ maxMembers) × (n ≤ i) × (n + length (from (mark gone) i) ≡ length (marked gone))
+Inv-loop gone n₀ i₀ n i = (i ≤ maxMembers) × (n ≤ i) × (n + length (pickedFrom (mark gone) i) ≡ length (marked gone))
 
 abbrev μ-loop : tie.MeasureT-loop
 μ-loop gone n₀ i₀ n i = maxMembers - i
 
 loop-holds : tie.Need-loop-holds Inv-loop μ-loop
-loop-holds c = (omega arith, omega arith, zero-add _ ∙ sym (ap length (marked-is _)))
+unfolding marked
+loop-holds c = (omega arith, omega arith, zero-add _)
 
 add-i : tie.Need-add-i Inv-loop μ-loop
 add-i c = omega arith
@@ -35,7 +37,7 @@ loop-less c = omega arith
 loop-again : tie.Need-loop-again Inv-loop μ-loop
 loop-again c =
     let l = c .before .before .loop in
-    (omega arith, omega arith, omega (arith, ap length (from-in (mark (c .before .before .before .args .t1)) (l .i) (omega arith) (c .if1 .taken)), l .inv .2))
+    (omega arith, omega arith, omega (arith, ap length (picked-in (mark (c .before .before .before .args .t1)) (l .i) (omega arith) (c .if1 .taken)), l .inv .2))
 
 loop-less-2 : tie.Need-loop-less-2 Inv-loop μ-loop
 loop-less-2 c = omega arith
@@ -43,10 +45,10 @@ loop-less-2 c = omega arith
 loop-again-2 : tie.Need-loop-again-2 Inv-loop μ-loop
 loop-again-2 c =
     let l = c .before .before .loop in
-    (omega arith, omega arith, omega (arith, ap length (from-out (mark (c .before .before .before .args .t1)) (l .i) (omega arith) (c .if1 .left)), l .inv .2))
+    (omega arith, omega arith, omega (arith, ap length (picked-out (mark (c .before .before .before .args .t1)) (l .i) (omega arith) (c .if1 .left)), l .inv .2))
 
 returns : tie.Need-returns Inv-loop μ-loop
-returns c = let l = c .before .loop in omega (arith, ap length (from-end (mark (c .before .before .args .t1)) (l .i) (omega arith)), l .inv .2)
+returns c = let l = c .before .loop in omega (arith, ap length (picked-end (mark (c .before .before .args .t1)) (l .i) (omega arith)), l .inv .2)
 
 pub count-marks-spec : {M : Type 1} → statement M
 count-marks-spec =

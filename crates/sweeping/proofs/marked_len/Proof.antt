@@ -1,20 +1,22 @@
 -- The length so far and that of the records from place i on make up the whole.
-use Prim.Native.Nat.{_+_, _-_, _*_, _≤_}
+use Prim.Native.Nat.{ℕ, _+_, _-_, _*_, _≤_}
 use native.Mathlib.Nat.{zero-add}
 use native.Mathlib.Omega.{arith}
 use mathlib.Core.Path.{_≡_, ap}
+use mathlib.Core.List.{List}
 use lib.ListN.{length}
 use borrow.Author.Needs.{needs}
 use Rattle.rules.specs.Constants.{maxMembers, slotCount}
 use Rattle.rules.specs.Records.{allBytes}
 use Rattle.sweeping.specs.Marks.{marked, goneAt, markedRecords}
-use Rattle.sweeping.proofs.Places.{mark, left, bytes-out, bytes-end, size-in}
+use Rattle.events.proofs.Places.{pickedFrom, picked-in, picked-out, picked-end, bytesAt, size-next, bytes-end}
+use Rattle.sweeping.proofs.Marking.{mark}
 use Rattle.sweeping.proofs.marked_len.Statement.{statement}
 use Rattle.sweeping.proofs.marked_len.Tie as tie
 
 abbrev Inv-loop : tie.InvT-loop
 Inv-loop gone targets n₀ i₀ n i =
-    (i ≤ maxMembers) × (n ≤ (2 * slotCount + 25) * i) × (n + length (left (goneAt targets) (mark gone) i) ≡ length (allBytes (markedRecords gone targets)))
+    (i ≤ maxMembers) × (n ≤ (2 * slotCount + 25) * i) × (n + length (bytesAt (goneAt targets) (pickedFrom (mark gone) i)) ≡ length (allBytes (markedRecords gone targets)))
 
 abbrev μ-loop : tie.MeasureT-loop
 μ-loop gone targets n₀ i₀ n i = maxMembers - i
@@ -48,7 +50,7 @@ loop-again : tie.Need-loop-again Inv-loop μ-loop
 loop-again c =
     let l = c .before .before .before .loop in
     let a = c .before .before .before .before .args in
-    let e = size-in (goneAt (a .t2)) (mark (a .t1)) (l .i) (omega arith) (c .before .if1 .taken) in
+    let e = size-next (goneAt (a .t2)) (picked-in (mark (a .t1)) (l .i) (omega arith) (c .before .if1 .taken)) in
     (omega arith, omega (arith, c .gone-records-len .ensures .1), omega (arith, e, l .inv .2, c .gone-records-len .ensures .0))
 
 loop-less-2 : tie.Need-loop-less-2 Inv-loop μ-loop
@@ -58,14 +60,14 @@ loop-again-2 : tie.Need-loop-again-2 Inv-loop μ-loop
 loop-again-2 c =
     let l = c .before .before .loop in
     let a = c .before .before .before .args in
-    let e = ap length (bytes-out (goneAt (a .t2)) (mark (a .t1)) (l .i) (omega arith) (c .if1 .left)) in
+    let e = ap (λ (ps : List ℕ). length (bytesAt (goneAt (a .t2)) ps)) (picked-out (mark (a .t1)) (l .i) (omega arith) (c .if1 .left)) in
     (omega arith, omega arith, omega (arith, e, l .inv .2))
 
 returns : tie.Need-returns Inv-loop μ-loop
 returns c =
     let l = c .before .loop in
     let a = c .before .before .args in
-    (omega (arith, ap length (bytes-end (goneAt (a .t2)) (mark (a .t1)) (l .i) (omega arith)), l .inv .2), omega arith)
+    (omega (arith, ap length (bytes-end (goneAt (a .t2)) (picked-end (mark (a .t1)) (l .i) (omega arith))), l .inv .2), omega arith)
 
 pub marked-len-spec : {M : Type 1} → statement M
 marked-len-spec =

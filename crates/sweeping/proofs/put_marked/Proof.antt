@@ -6,15 +6,16 @@ use mathlib.Core.Path.{_∙_}
 use borrow.Author.Needs.{needs}
 use Rattle.rules.specs.Constants.{maxMembers}
 use Rattle.rules.specs.Records.{allBytes}
-use Rattle.numbers.proofs.Writing.{Writing, begin, to-go₁, same-len, in-range, room, put-at, part-over, ended}
+use Rattle.numbers.proofs.Writing.{Writing, begin, cut, to-go₁, same-len, in-range, room, put-at, part-over, ended}
 use Rattle.sweeping.specs.Marks.{marked, goneAt, markedRecords}
-use Rattle.sweeping.proofs.Places.{mark, left, bytes-end, write-in, write-out}
+use Rattle.events.proofs.Places.{pickedFrom, picked-in, picked-out, picked-end, bytesAt, bytes-next, bytes-end}
+use Rattle.sweeping.proofs.Marking.{mark}
 use Rattle.sweeping.proofs.put_marked.Statement.{statement}
 use Rattle.sweeping.proofs.put_marked.Tie as tie
 
 abbrev Inv-loop : tie.InvT-loop
 Inv-loop buf₀ gone targets at₀ i₀ buf at i =
-    (i ≤ maxMembers) × Writing (allBytes (markedRecords gone targets)) buf₀ buf at (left (goneAt targets) (mark gone) i ∷ [])
+    (i ≤ maxMembers) × Writing (allBytes (markedRecords gone targets)) buf₀ buf at (bytesAt (goneAt targets) (pickedFrom (mark gone) i) ∷ [])
 
 abbrev μ-loop : tie.MeasureT-loop
 μ-loop buf₀ gone targets at₀ i₀ buf at i = maxMembers - i
@@ -23,13 +24,13 @@ abbrev Coming : (c : tie.Then1 Inv-loop μ-loop) → Type 0
 Coming c =
     let l = c .before .before .loop in
     let a = c .before .before .before .before .args in
-    Writing (allBytes (markedRecords (a .t2) (a .t3))) (a .buf .now) (l .buf) (l .at) (allBytes (goneAt (a .t3) (l .i)) ∷ left (goneAt (a .t3)) (mark (a .t2)) (l .i + 1) ∷ [])
+    Writing (allBytes (markedRecords (a .t2) (a .t3))) (a .buf .now) (l .buf) (l .at) (allBytes (goneAt (a .t3) (l .i)) ∷ bytesAt (goneAt (a .t3)) (pickedFrom (mark (a .t2)) (l .i + 1)) ∷ [])
 
 coming : (c : tie.Then1 Inv-loop μ-loop) → Coming c
 coming c =
     let l = c .before .before .loop in
     let a = c .before .before .before .before .args in
-    write-in (goneAt (a .t3)) (mark (a .t2)) (l .i) (omega arith) (c .if1 .taken) (l .inv .1)
+    cut (bytes-next (goneAt (a .t3)) (picked-in (mark (a .t2)) (l .i) (omega arith) (c .if1 .taken))) (l .inv .1)
 
 loop-holds : tie.Need-loop-holds Inv-loop μ-loop
 unfolding markedRecords marked
@@ -75,7 +76,7 @@ loop-again-2 : tie.Need-loop-again-2 Inv-loop μ-loop
 loop-again-2 c =
     let l = c .before .before .loop in
     let a = c .before .before .before .before .args in
-    (omega arith, write-out (goneAt (a .t3)) (mark (a .t2)) (l .i) (omega arith) (c .if1 .left) (l .inv .1))
+    (omega arith, rw (picked-out (mark (a .t2)) (l .i) (omega arith) (c .if1 .left)) at (l .inv .1))
 
 same-length : tie.Need-same-length Inv-loop μ-loop
 same-length c = same-len (c .before .loop .inv .1)
@@ -84,7 +85,7 @@ returns : tie.Need-returns Inv-loop μ-loop
 returns c =
     let l = c .before .loop in
     let a = c .before .before .before .args in
-    ended (l .inv .1) (append-nil _ ∙ bytes-end (goneAt (a .t3)) (mark (a .t2)) (l .i) (omega arith))
+    ended (l .inv .1) (append-nil _ ∙ bytes-end (goneAt (a .t3)) (picked-end (mark (a .t2)) (l .i) (omega arith)))
 
 pub put-marked-spec : {M : Type 1} → statement M
 put-marked-spec =

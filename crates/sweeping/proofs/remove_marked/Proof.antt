@@ -2,24 +2,26 @@
 use Prim.Native.Nat.{_+_, _-_, _≤_}
 use native.Mathlib.Omega.{arith}
 use mathlib.Core.List.{foldl}
-use mathlib.Core.Path.{_≡_, sym, ap, _∙_}
+use mathlib.Core.Path.{_≡_, refl, sym, ap, _∙_}
 use borrow.Author.Needs.{needs}
 use Rattle.rules.specs.Constants.{maxMembers}
 use Rattle.rules.specs.Effects.{remove}
 use Rattle.group.specs.View.{view}
 use Rattle.sweeping.specs.Marks.{marked}
-use Rattle.sweeping.proofs.Places.{from, mark, marked-is, from-in, from-out, from-end}
+use Rattle.events.proofs.Places.{pickedFrom, picked-in, picked-out, picked-end}
+use Rattle.sweeping.proofs.Marking.{mark}
 use Rattle.sweeping.proofs.remove_marked.Statement.{statement}
 use Rattle.sweeping.proofs.remove_marked.Tie as tie
 
 abbrev Inv-loop : tie.InvT-loop
-Inv-loop gone rest₀ i₀ rest i = (i ≤ maxMembers) × (foldl remove (view rest) (from (mark gone) i) ≡ foldl remove (view rest₀) (marked gone))
+Inv-loop gone rest₀ i₀ rest i = (i ≤ maxMembers) × (foldl remove (view rest) (pickedFrom (mark gone) i) ≡ foldl remove (view rest₀) (marked gone))
 
 abbrev μ-loop : tie.MeasureT-loop
 μ-loop gone rest₀ i₀ rest i = maxMembers - i
 
 loop-holds : tie.Need-loop-holds Inv-loop μ-loop
-loop-holds c = (omega arith, ap (foldl remove _) (sym (marked-is _)))
+unfolding marked
+loop-holds c = (omega arith, refl)
 
 add-i : tie.Need-add-i Inv-loop μ-loop
 add-i c = omega arith
@@ -40,7 +42,7 @@ loop-again : tie.Need-loop-again Inv-loop μ-loop
 loop-again c =
     let l = c .before .before .before .loop in
     let f = mark (c .before .before .before .before .args .t2) in
-    (omega arith, ap (λ g. foldl remove g (from f (l .i + 1))) (c .remove-member .ensures) ∙ ap (foldl remove (view (l .rest))) (sym (from-in f (l .i) (omega arith) (c .before .if1 .taken))) ∙ l .inv .1)
+    (omega arith, ap (λ g. foldl remove g (pickedFrom f (l .i + 1))) (c .remove-member .ensures) ∙ ap (foldl remove (view (l .rest))) (sym (picked-in f (l .i) (omega arith) (c .before .if1 .taken))) ∙ l .inv .1)
 
 loop-less-2 : tie.Need-loop-less-2 Inv-loop μ-loop
 loop-less-2 c = omega arith
@@ -48,10 +50,10 @@ loop-less-2 c = omega arith
 loop-again-2 : tie.Need-loop-again-2 Inv-loop μ-loop
 loop-again-2 c =
     let l = c .before .before .loop in
-    (omega arith, ap (foldl remove (view (l .rest))) (sym (from-out (mark (c .before .before .before .args .t2)) (l .i) (omega arith) (c .if1 .left))) ∙ l .inv .1)
+    (omega arith, ap (foldl remove (view (l .rest))) (sym (picked-out (mark (c .before .before .before .args .t2)) (l .i) (omega arith) (c .if1 .left))) ∙ l .inv .1)
 
 returns : tie.Need-returns Inv-loop μ-loop
-returns c = let l = c .before .loop in ap (foldl remove (view (l .rest))) (sym (from-end (mark (c .before .before .args .t2)) (l .i) (omega arith))) ∙ l .inv .1
+returns c = let l = c .before .loop in ap (foldl remove (view (l .rest))) (sym (picked-end (mark (c .before .before .args .t2)) (l .i) (omega arith))) ∙ l .inv .1
 
 pub remove-marked-spec : {M : Type 1} → statement M
 remove-marked-spec =

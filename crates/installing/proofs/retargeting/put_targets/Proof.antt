@@ -4,19 +4,18 @@ use native.Mathlib.Omega.{arith}
 use mathlib.Core.Path.{_∙_}
 use mathlib.Core.List.{[], _∷_, append-nil}
 use borrow.Author.Needs.{needs}
-use Rattle.rules.specs.Basics.{concatMap}
 use Rattle.rules.specs.Constants.{maxMembers}
 use Rattle.rules.specs.Records.{allBytes}
 use Rattle.numbers.proofs.Writing.{Writing, begin, cut, to-go₁, in-range, same-len, room, put-at, part-over, ended}
 use Rattle.installing.specs.Targets.{recordOf, recordsOf}
-use Rattle.installing.proofs.Installs.{placesFrom, bytes-next, bytes-done}
+use Rattle.events.proofs.Places.{placesFrom, places-next, places-end, bytesAt, bytes-next, bytes-end}
 use Rattle.installing.proofs.retargeting.put_targets.Statement.{statement}
 use Rattle.installing.proofs.retargeting.put_targets.Tie as tie
 
 abbrev Inv-loop : tie.InvT-loop
 Inv-loop buf₀ before after marks at₀ i₀ buf at i =
     (i ≤ maxMembers)
-    × Writing (allBytes (recordsOf before after)) buf₀ buf at (allBytes (concatMap (recordOf before after) (placesFrom i)) ∷ [])
+    × Writing (allBytes (recordsOf before after)) buf₀ buf at (bytesAt (recordOf before after) (placesFrom i) ∷ [])
 
 abbrev μ-loop : tie.MeasureT-loop
 μ-loop buf₀ before after marks at₀ i₀ buf at i = maxMembers - i
@@ -27,13 +26,13 @@ Turn c =
     let l = c .before .loop in
     let a = c .before .before .before .args in
     let rs = recordOf (a .before .now) (a .after .now) in
-    Writing (allBytes (recordsOf (a .before .now) (a .after .now))) (a .buf .now) (l .buf) (l .at) (allBytes (rs (l .i)) ∷ allBytes (concatMap rs (placesFrom (l .i + 1))) ∷ [])
+    Writing (allBytes (recordsOf (a .before .now) (a .after .now))) (a .buf .now) (l .buf) (l .at) (allBytes (rs (l .i)) ∷ bytesAt rs (placesFrom (l .i + 1)) ∷ [])
 
 turn : (c : tie.In-loop Inv-loop μ-loop) → Turn c
 turn c =
     let l = c .before .loop in
     let a = c .before .before .before .args in
-    cut (bytes-next (recordOf (a .before .now) (a .after .now)) (l .i) (omega arith)) (l .inv .1)
+    cut (bytes-next (recordOf (a .before .now) (a .after .now)) (places-next (l .i) (omega arith))) (l .inv .1)
 
 loop-holds : tie.Need-loop-holds Inv-loop μ-loop
 loop-holds c = (omega arith, begin _ _ _ (append-nil _) (c .before .pre .1))
@@ -83,7 +82,7 @@ returns : tie.Need-returns Inv-loop μ-loop
 returns c =
     let l = c .before .loop in
     let a = c .before .before .before .args in
-    ended (l .inv .1) (append-nil _ ∙ bytes-done (recordOf (a .before .now) (a .after .now)) (l .i) (omega arith))
+    ended (l .inv .1) (append-nil _ ∙ bytes-end (recordOf (a .before .now) (a .after .now)) (places-end (l .i) (omega arith)))
 
 pub put-targets-spec : {M : Type 1} → statement M
 put-targets-spec =

@@ -6,18 +6,17 @@ use mathlib.Core.Path.{_≡_, ap, _∙_}
 use mathlib.Core.List.{List}
 use lib.ListN.{length}
 use borrow.Author.Needs.{needs}
-use Rattle.rules.specs.Basics.{concatMap}
 use Rattle.rules.specs.Constants.{maxMembers, slotCount}
 use Rattle.rules.specs.Records.{Record, allBytes}
 use Rattle.installing.specs.Targets.{recordOf, recordsOf}
-use Rattle.installing.proofs.Installs.{placesFrom, size-next, bytes-done}
+use Rattle.events.proofs.Places.{placesFrom, places-next, places-end, bytesAt, size-next, bytes-end}
 use Rattle.installing.proofs.retargeting.targets_len.Statement.{statement}
 use Rattle.installing.proofs.retargeting.targets_len.Tie as tie
 
 abbrev Inv-loop : tie.InvT-loop
 Inv-loop before after marks n₀ i₀ n i =
     (i ≤ maxMembers) × (n ≤ (2 * slotCount + 11) * i)
-    × (n + length (allBytes (concatMap (recordOf before after) (placesFrom i))) ≡ length (allBytes (recordsOf before after)))
+    × (n + length (bytesAt (recordOf before after) (placesFrom i)) ≡ length (allBytes (recordsOf before after)))
 
 abbrev μ-loop : tie.MeasureT-loop
 μ-loop before after marks n₀ i₀ n i = maxMembers - i
@@ -52,7 +51,7 @@ loop-again : tie.Need-loop-again Inv-loop μ-loop
 loop-again c =
     let l = c .before .before .before .before .before .loop in
     let a = c .before .before .before .before .before .before .args in
-    let e = size-next (recordOf (a .before .now) (a .after .now)) (l .i) (omega arith) in
+    let e = size-next (recordOf (a .before .now) (a .after .now)) (places-next (l .i) (omega arith)) in
     let k = c .target-len-if .ensures .0 ∙ ap (λ (rs : List Record). length (allBytes rs)) (c .before .before .retarget-of .ensures) in
     (omega arith, omega arith, omega (arith, e, k, l .inv .2))
 
@@ -60,7 +59,7 @@ returns : tie.Need-returns Inv-loop μ-loop
 returns c =
     let l = c .before .loop in
     let a = c .before .before .args in
-    let e = ap length (bytes-done (recordOf (a .before .now) (a .after .now)) (l .i) (omega arith)) in
+    let e = ap length (bytes-end (recordOf (a .before .now) (a .after .now)) (places-end (l .i) (omega arith))) in
     (omega (arith, e, l .inv .2), omega arith)
 
 pub targets-len-spec : {M : Type 1} → statement M

@@ -12,7 +12,7 @@ use Rattle.rules.specs.Effects.{due}
 use Rattle.rules.specs.Group.{revoking}
 use Rattle.group.proofs.Views.{seat-at}
 use Rattle.group.specs.View.{viewSeat}
-use Rattle.sweeping.proofs.Places.{mark-set}
+use Rattle.sweeping.proofs.Marking.{mark-set}
 use Rattle.sweeping.proofs.overdue.due_places.Statement.{statement}
 use Rattle.sweeping.proofs.overdue.due_places.Tie as tie
 

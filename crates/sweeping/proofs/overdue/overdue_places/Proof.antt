@@ -10,7 +10,7 @@ use Rattle.rules.specs.Effects.{due, overdue, overduePlaces}
 use Rattle.tables.specs.View.{viewTables}
 use Rattle.group.specs.View.{view, viewSeat}
 use Rattle.sweeping.specs.Marks.{marked}
-use Rattle.sweeping.proofs.Places.{keep-same}
+use Rattle.events.proofs.Places.{keep-same}
 use Rattle.sweeping.proofs.overdue.overdue_places.Statement.{statement}
 use Rattle.sweeping.proofs.overdue.overdue_places.Tie as tie
 
