@@ -1,12 +1,16 @@
 -- Loops over the places, at all of them or at those that a test picks: a loop keeps the list of the places that are left. What is stored place by place is
--- told by such a list alone, however it was picked.
+-- told by such a list alone, however it was picked. Last, a table of marks in which a place is marked.
 use Prim.Native.Nat.{ℕ, zero, suc, _+_, _-_, _≤_, _<_}
 use native.Mathlib.Omega.{arith}
+use native.Mathlib.Decide.{ℕ-discrete}
 use native.Mathlib.Numerals.{add-one}
-use mathlib.Core.Path.{_≡_, refl, ap, _∙_}
-use mathlib.Core.Bool.{Bool, true, false}
+use mathlib.Core.Path.{_≡_, refl, sym, ap, _∙_}
+use mathlib.Core.Bool.{Bool, true, false, _||_, or-true, or-false}
 use mathlib.Core.List.{List, [], _∷_, _++_}
-use lib.ListN.{length, length-append}
+use lib.Dec.{eqb}
+use lib.ListN.{length, getD, set, length-append}
+use lib.Seq.{getD-set-same, getD-set-other}
+use borrow.Author.Tests.{eq-eqb, ne-eqb}
 use Rattle.rules.specs.Basics.{if_then_else_, concatMap, upTo, keep}
 use Rattle.rules.specs.Constants.{maxMembers}
 use Rattle.rules.specs.Records.{Record, allBytes}
@@ -78,3 +82,22 @@ module _ (rs : ℕ → List Record) {ps : List ℕ} where
 
   pub bytes-end : ps ≡ [] → bytesAt rs ps ≡ []
   bytes-end e = ap (bytesAt rs) e ∙ all-none
+
+-- ---- a place is marked
+
+pub eqb-swap : (a b : ℕ) → eqb a b ≡ eqb b a
+eqb-swap a b = go (ℕ-discrete a b)
+  where
+    go : Dec (a ≡ b) → eqb a b ≡ eqb b a
+    go (yes e) = eq-eqb a b e ∙ sym (eq-eqb b a (sym e))
+    go (no e) = ne-eqb a b e ∙ sym (ne-eqb b a (λ r. e (sym r)))
+
+pub mark-none : (marks : List Bool) (p q : ℕ) → (q ≡ p → ⊥) → getD marks q false ≡ (getD marks q false || eqb q p)
+mark-none marks p q e = sym (ap (λ (b : Bool). getD marks q false || b) (ne-eqb q p e) ∙ or-false (getD marks q false))
+
+pub mark-set : (marks : List Bool) (p q : ℕ) → p < length marks → getD (set marks p true) q false ≡ (getD marks q false || eqb q p)
+mark-set marks p q h = go (ℕ-discrete q p)
+  where
+    go : Dec (q ≡ p) → getD (set marks p true) q false ≡ (getD marks q false || eqb q p)
+    go (yes e) = rw (eq-eqb q p e, e, getD-set-same marks p true false h) (sym (or-true (getD marks p false)))
+    go (no e) = getD-set-other marks p q true false e ∙ mark-none marks p q e

@@ -1,11 +1,11 @@
 -- An array of numbers that a loop fills from its start with what f makes of a list's elements: below the index it is filled. Assumes nothing.
 use Prim.Native.Nat.{ℕ, _+_, _≤_, _<_}
 use native.Mathlib.Omega.{arith}
-use native.Mathlib.Decide.{decLt}
 use mathlib.Core.Path.{_≡_, sym, ap, _∙_}
 use mathlib.Core.List.{List, map}
 use lib.ListN.{length, getD, set, length-set, length-map, List·getD-map}
-use lib.Seq.{getD-set-same, getD-set-other, ext-getD}
+use lib.Seq.{ext-getD}
+use Rattle.slots.proofs.Each.{store-next}
 
 module _ {A : Type 0} (f : A → ℕ) (l : List A) where
   pub record Filled (r : List ℕ) (i : ℕ) : Type 0 where
@@ -18,16 +18,10 @@ module _ {A : Type 0} (f : A → ℕ) (l : List A) where
   module _ {r : List ℕ} {i : ℕ} (s : Filled r i) where
     -- d stands past the end of l, where f gives 0
     pub fill-next : (d : A) → f d ≡ 0 → i < length l → Filled (set r i (f (getD l i d))) (i + 1)
-    fill-next d z h = record { size = length-set r i (f (getD l i d)) ∙ s .size; same = λ k p. go k p (decLt k i) }
-      where
-        here : f (getD l i d) ≡ getD (map f l) i 0
-        here = sym (List·getD-map f l i d) ∙ ap (getD (map f l) i) z
-
-        go : (k : ℕ) → k < i + 1 → Dec (k < i) → getD (set r i (f (getD l i d))) k 0 ≡ getD (map f l) k 0
-        go k p (yes q) = getD-set-other r i k (f (getD l i d)) 0 (λ (e : k ≡ i). omega arith) ∙ s .same k q
-        go k p (no q) =
-            let e : k ≡ i = omega arith in
-            rw (e, getD-set-same r i (f (getD l i d)) 0 (omega (arith, s .size))) here
+    fill-next d z h = record {
+      size = length-set r i (f (getD l i d)) ∙ s .size;
+      same = store-next (λ k. getD (map f l) k 0) 0 r i (f (getD l i d)) (omega (arith, s .size)) (s .same) (sym (List·getD-map f l i d) ∙ ap (getD (map f l) i) z);
+    }
 
     pub fill-end : length l ≤ i → r ≡ map f l
     fill-end h = ext-getD 0 r (map f l) (s .size ∙ sym (length-map l f)) (λ k p. s .same k (omega (arith, s .size)))

@@ -2,7 +2,7 @@
 -- Assumes nothing.
 use Prim.Native.Nat.{ℕ, zero, suc, _+_, _/_, _%_, _^_, _≤_, _<_}
 use native.Mathlib.Omega.{arith}
-use native.Mathlib.Nat.{not-suc-le-zero, le-of-suc-le-suc, div-eq-of-lt}
+use native.Mathlib.Nat.{div-eq-of-lt}
 use native.Mathlib.Numerals.{add-one}
 use mathlib.Core.Path.{_≡_, refl, sym, ap, ap₂, _∙_}
 use mathlib.Core.Bool.{Bool, true, false}
@@ -10,6 +10,7 @@ use mathlib.Core.List.{List, [], _∷_}
 use mathlib.Core.Option.{none, some}
 use lib.Dec.{eqb, ltb}
 use lib.ListN.{length, getD, drop, drop-of-length-le, List·getD-map}
+use lib.Seq.{drop-cons}
 use lib.Pow.{pow-pos, pow-mono}
 use borrow.Author.Tests.{ne-eqb, le-ltb}
 use Rattle.rules.specs.Basics.{if_then_else_}
@@ -85,9 +86,7 @@ module _ (g : Group) where
 module _ (bad : ℕ → ℕ → Bool) where
   first-next : (s : ℕ) (l : List ℕ) (i : ℕ) → i < length l → firstWith bad s (drop i l) ≡ (if bad s (getD l i 0) then s else firstWith bad (suc s) (drop (suc i) l))
   unfolding firstWith
-  first-next s [] i p = absurd (not-suc-le-zero p)
-  first-next s (x ∷ l) zero p = refl
-  first-next s (x ∷ l) (suc i) p = first-next s l i (le-of-suc-le-suc p)
+  first-next s l i p = ap (firstWith bad s) (drop-cons l i 0 p)
 
   module _ (s : ℕ) (l : List ℕ) where
     pub first-found : s < length l → bad s (getD l s 0) ≡ true → firstWith bad s (drop s l) ≡ s

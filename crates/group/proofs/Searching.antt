@@ -1,41 +1,24 @@
--- A loop that walks a list from its start: what the part passed leaves of `same`, `all`, `any` and `find`.
+-- A loop that walks a list from its start: what the part passed leaves of `any` and `find`.
 -- At each index the definition over the whole list is the definition over what is left, so a loop ends with its answer.
 -- Assumes nothing.
-use Prim.Native.Nat.{ℕ, zero, suc, _+_, _≤_, _<_}
-use native.Mathlib.Nat.{le-of-suc-le-suc, not-suc-le-zero, zero-add}
+use Prim.Native.Nat.{ℕ, suc, _+_, _≤_, _<_}
+use native.Mathlib.Nat.{zero-add}
 use native.Mathlib.Numerals.{add-one}
 use native.Mathlib.Omega.{arith}
 use mathlib.Core.Path.{_≡_, refl, sym, ap, _∙_}
-use mathlib.Core.Bool.{Bool, true, false, _&&_, _||_}
-use mathlib.Core.List.{List, [], _∷_, map}
-use lib.Dec.{eqb}
+use mathlib.Core.Bool.{Bool, true, false, _||_}
+use mathlib.Core.List.{List, map}
 use lib.ListN.{length, getD, drop, drop-of-length-le}
-use Rattle.rules.specs.Basics.{if_then_else_, same, any, all, find}
-
--- two lists from index i on
-pub same-next : (a b : List ℕ) (i : ℕ) → i < length a → i < length b → same (drop i a) (drop i b) ≡ (eqb (getD a i 0) (getD b i 0) && same (drop (suc i) a) (drop (suc i) b))
-same-next [] b i p q = absurd (not-suc-le-zero p)
-same-next (x ∷ a) [] i p q = absurd (not-suc-le-zero q)
-same-next (x ∷ a) (y ∷ b) zero p q = refl
-same-next (x ∷ a) (y ∷ b) (suc i) p q = same-next a b i (le-of-suc-le-suc p) (le-of-suc-le-suc q)
-
-module _ {A : Type 0} (f : A → Bool) where
-  pub all-next : (l : List A) (i : ℕ) (d : A) → i < length l → all f (drop i l) ≡ (f (getD l i d) && all f (drop (suc i) l))
-  all-next [] i d p = absurd (not-suc-le-zero p)
-  all-next (x ∷ l) zero d p = refl
-  all-next (x ∷ l) (suc i) d p = all-next l i d (le-of-suc-le-suc p)
+use lib.Seq.{drop-cons}
+use Rattle.rules.specs.Basics.{if_then_else_, any, find}
 
 -- a search for f among what v makes of a list's elements
 module _ {A B : Type 0} (f : B → Bool) (v : A → B) where
   any-next : (l : List A) (i : ℕ) (d : A) → i < length l → any f (map v (drop i l)) ≡ (f (v (getD l i d)) || any f (map v (drop (suc i) l)))
-  any-next [] i d p = absurd (not-suc-le-zero p)
-  any-next (x ∷ l) zero d p = refl
-  any-next (x ∷ l) (suc i) d p = any-next l i d (le-of-suc-le-suc p)
+  any-next l i d p = ap (λ (r : List A). any f (map v r)) (drop-cons l i d p)
 
   find-next : (l : List A) (i : ℕ) (d : A) → i < length l → find f (map v (drop i l)) ≡ (if f (v (getD l i d)) then 0 else suc (find f (map v (drop (suc i) l))))
-  find-next [] i d p = absurd (not-suc-le-zero p)
-  find-next (x ∷ l) zero d p = refl
-  find-next (x ∷ l) (suc i) d p = find-next l i d (le-of-suc-le-suc p)
+  find-next l i d p = ap (λ (r : List A). find f (map v r)) (drop-cons l i d p)
 
   -- none below i passes
   pub record Sought (l : List A) (i : ℕ) : Type 0 where

@@ -2,7 +2,7 @@
 use Prim.Native.Nat.{ℕ, zero, suc}
 use native.Mathlib.Omega.{arith}
 use mathlib.Core.Path.{_≡_, refl, sym}
-use mathlib.Core.Bool.{Bool, true, false}
+use mathlib.Core.Bool.{Bool, true, false, true≢false}
 use borrow.Author.Tests.{ltb-true, ltb-false, lt-ltb, le-ltb, ne-eqb}
 use lib.Dec.{T, eqb}
 use lib.IntN.{ℤ, pos, negsuc, natAbs}
@@ -17,9 +17,6 @@ use Rattle.rules.specs.Refusals.{isEpoch, badTimeout, noTimeout, timeoutOr, joi
 pub tested : (a b : ℤ) (t : Bool) → SFits w32 a → SFits w32 b → ltZ (toZ w32 (ofZ w32 a)) (toZ w32 (ofZ w32 b)) ≡ t → ltZ a b ≡ t
 tested a b t f g h = simp (toZ-ofZ f, toZ-ofZ g) at h
 
-true-false : {A : Type 0} → true ≡ false → A
-true-false e = absurd (let z : _≡_ {A = ℕ} 0 1 = cc in omega arith)
-
 -- below zero
 pub below-zero : (z : ℤ) (n : ℕ) → ltZ z (pos 0) ≡ true → isEpoch z n ≡ false
 unfolding isEpoch
@@ -33,16 +30,16 @@ keeps (negsuc k) had h = refl
 -- not below zero
 pub not-below : (z : ℤ) → ltZ z (pos 0) ≡ false → T (nonNeg z)
 not-below (pos k) h = tt
-not-below (negsuc k) h = true-false h
+not-below (negsuc k) h = absurd (true≢false h)
 
 pub is-natural : (z : ℤ) (n : ℕ) → ltZ z (pos 0) ≡ false → eqb (natAbs z) n ≡ isEpoch z n
 unfolding isEpoch
 is-natural (pos k) n h = refl
-is-natural (negsuc k) n h = true-false h
+is-natural (negsuc k) n h = absurd (true≢false h)
 
 pub is-given : (z : ℤ) (had : ℕ) → ltZ z (pos 0) ≡ false → timeoutOr z had ≡ natAbs z
 is-given (pos k) had h = refl
-is-given (negsuc k) had h = true-false h
+is-given (negsuc k) had h = absurd (true≢false h)
 
 -- either way
 pub sign-is : (z : ℤ) → ltZ z (pos 0) ≡ noTimeout z
@@ -62,20 +59,20 @@ pub bad-zero : (z : ℤ) → ltZ z (pos 0) ≡ false → ltZ z (pos 1) ≡ true 
 unfolding badTimeout
 bad-zero (pos zero) h q = refl
 bad-zero (pos (suc k)) h q = absurd (let r = ltb-true (suc k) 1 q in omega arith)
-bad-zero (negsuc k) h q = true-false h
+bad-zero (negsuc k) h q = absurd (true≢false h)
 
 pub bad-above : (z : ℤ) → ltZ z (pos 0) ≡ false → ltZ z (pos 1) ≡ false → ltZ (pos maxTimeout) z ≡ badTimeout z
 unfolding badTimeout
-bad-above (pos zero) h q = true-false q
+bad-above (pos zero) h q = absurd (true≢false q)
 bad-above (pos (suc k)) h q = let z : eqb (suc k) 0 ≡ false = ne-eqb (suc k) 0 (λ e. omega arith) in rw z
-bad-above (negsuc k) h q = true-false h
+bad-above (negsuc k) h q = absurd (true≢false h)
 
 -- ---- the kind of a heartbeat, by three tests of its epoch
 
 pub kind-invalid : (z : ℤ) → ltZ z (negsuc 0) ≡ true → kindOf z ≡ invalid
 unfolding kindOf
-kind-invalid (pos k) h = true-false (sym h)
-kind-invalid (negsuc zero) h = true-false (sym h)
+kind-invalid (pos k) h = absurd (true≢false (sym h))
+kind-invalid (negsuc zero) h = absurd (true≢false (sym h))
 kind-invalid (negsuc (suc k)) h = refl
 
 pub kind-leaves : (z : ℤ) → ltZ z (negsuc 0) ≡ false → ltZ z (pos 0) ≡ true → kindOf z ≡ leaves
@@ -88,10 +85,10 @@ pub kind-joins : (z : ℤ) → ltZ z (pos 0) ≡ false → ltZ z (pos 1) ≡ tru
 unfolding kindOf
 kind-joins (pos zero) h q = refl
 kind-joins (pos (suc k)) h q = absurd (let r = ltb-true (suc k) 1 q in omega arith)
-kind-joins (negsuc k) h q = true-false h
+kind-joins (negsuc k) h q = absurd (true≢false h)
 
 pub kind-ordinary : (z : ℤ) → ltZ z (pos 0) ≡ false → ltZ z (pos 1) ≡ false → kindOf z ≡ ordinary (natAbs z)
 unfolding kindOf
-kind-ordinary (pos zero) h q = true-false q
+kind-ordinary (pos zero) h q = absurd (true≢false q)
 kind-ordinary (pos (suc k)) h q = refl
-kind-ordinary (negsuc k) h q = true-false h
+kind-ordinary (negsuc k) h q = absurd (true≢false h)

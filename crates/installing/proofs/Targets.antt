@@ -1,15 +1,14 @@
 -- The set of a place in a target: two targets that have the place at the same slots give it the same set (`same-sets`), who holds a slot is no matter
 -- (`viewed`), and gathering gives it (`gathered`). Then record 7 of a place, and the pass that marks the places at which two targets differ.
 use Prim.Native.Nat.{ℕ, suc, _+_, _≤_, _<_}
-use native.Mathlib.Decide.{ℕ-discrete}
+use native.Mathlib.Nat.{suc-inj}
 use native.Mathlib.Omega.{arith}
 use mathlib.Core.Path.{_≡_, refl, sym, ap, ap₂, _∙_}
-use mathlib.Core.Bool.{Bool, true, false, not, _||_, or-true, or-false}
+use mathlib.Core.Bool.{Bool, false, not, _||_}
 use mathlib.Core.List.{List, [], _∷_}
 use lib.Dec.{eqb}
-use lib.ListN.{length, getD, set, length-map, List·getD-map}
-use lib.Seq.{getD-set-same, getD-set-other}
-use borrow.Author.Tests.{eq-eqb, ne-eqb, eqb-false}
+use lib.ListN.{length, getD, length-map, List·getD-map}
+use borrow.Author.Count.{below-more}
 use Rattle.rules.specs.Basics.{if_then_else_, indices, same}
 use Rattle.rules.specs.Constants.{maxMembers, slotCount, noPlace}
 use Rattle.rules.specs.Group.{SlotState, freeSlot, targeted, setM}
@@ -17,14 +16,12 @@ use Rattle.rules.specs.Records.{Record, targetIs}
 use Rattle.rules.specs.Effects.{onlyIf, targetRecord}
 use Rattle.slots.specs.Set.{has, slotsOf}
 use Rattle.slots.specs.declared.SlotSet.{SlotSet}
-use Rattle.rules.proofs.Lists.{same-refl}
+use Rattle.rules.proofs.Lists.{or-false, same-refl}
 use Rattle.tables.specs.View.{viewLists}
 use Rattle.tables.proofs.Viewing.{getD-any}
 use Rattle.tables.proofs.Listing.{picks-list}
+use Rattle.events.proofs.Places.{eqb-swap}
 use Rattle.installing.specs.Targets.{unheldSlot, unheld, recordOf, Marked}
-
-suc-injective : {a b : ℕ} → suc a ≡ suc b → a ≡ b
-suc-injective e = omega arith
 
 module _ (p : ℕ) where
   same-from : (ts us : List ℕ) (n : ℕ) → length ts ≡ length us → ((s : ℕ) → s < length ts → eqb (getD ts s 0) p ≡ eqb (getD us s 0) p)
@@ -34,7 +31,7 @@ module _ (p : ℕ) where
   same-from [] (u ∷ us) n l h = absurd (omega (arith, l))
   same-from (t ∷ ts) [] n l h = absurd (omega (arith, l))
   same-from (t ∷ ts) (u ∷ us) n l h =
-      ap₂ (λ (b : Bool) (rest : List ℕ). if b then n ∷ rest else rest) (h 0 (omega arith)) (same-from ts us (suc n) (suc-injective l) (λ s q. h (suc s) (omega arith)))
+      ap₂ (λ (b : Bool) (rest : List ℕ). if b then n ∷ rest else rest) (h 0 (omega arith)) (same-from ts us (suc n) (suc-inj l) (λ s q. h (suc s) (omega arith)))
 
   pub same-sets : (ts us : List ℕ) → length ts ≡ length us → ((s : ℕ) → s < length ts → eqb (getD ts s 0) p ≡ eqb (getD us s 0) p) → setM p (unheld ts) ≡ setM p (unheld us)
   unfolding setM
@@ -47,7 +44,7 @@ module _ (p : ℕ) where
   view-from (t ∷ ts) [] ws n k l = absurd (omega (arith, k))
   view-from (t ∷ ts) (h ∷ hs) [] n k l = absurd (omega (arith, l))
   view-from (t ∷ ts) (h ∷ hs) (w ∷ ws) n k l =
-      ap (λ (rest : List ℕ). if eqb t p then n ∷ rest else rest) (view-from ts hs ws (suc n) (suc-injective k) (suc-injective l))
+      ap (λ (rest : List ℕ). if eqb t p then n ∷ rest else rest) (view-from ts hs ws (suc n) (suc-inj k) (suc-inj l))
 
   pub viewed : (ts hs : List ℕ) (ws : List Bool) → length hs ≡ length ts → length ws ≡ length ts → setM p (viewLists ts hs ws) ≡ setM p (unheld ts)
   unfolding setM
@@ -79,39 +76,16 @@ module _ (p : ℕ) (before after : List ℕ) where
 pub record Marking (marks : List Bool) (before after : List ℕ) (i : ℕ) : Type 0 where
   pub agree : (p : ℕ) → p < maxMembers → getD marks p false ≡ false → (s : ℕ) → s < i → eqb (getD before s 0) p ≡ eqb (getD after s 0) p
 
-or-left : (a b : Bool) → (a || b) ≡ false → a ≡ false
-or-left true b h = h
-or-left false b h = refl
-
-or-right : (a b : Bool) → (a || b) ≡ false → b ≡ false
-or-right true b h = absurd (let z : _≡_ {A = ℕ} 0 1 = cc in omega arith)
-or-right false b h = h
-
-pub mark-none : (marks : List Bool) (p q : ℕ) → (q ≡ p → ⊥) → getD marks q false ≡ (getD marks q false || eqb q p)
-mark-none marks p q e = sym (ap (λ (b : Bool). getD marks q false || b) (ne-eqb q p e) ∙ or-false (getD marks q false))
-
-pub mark-set : (marks : List Bool) (p q : ℕ) → p < length marks → getD (set marks p true) q false ≡ (getD marks q false || eqb q p)
-mark-set marks p q h = go (ℕ-discrete q p)
-  where
-    go : Dec (q ≡ p) → getD (set marks p true) q false ≡ (getD marks q false || eqb q p)
-    go (yes e) = rw (eq-eqb q p e, e, getD-set-same marks p true false h) (sym (or-true (getD marks p false)))
-    go (no e) = getD-set-other marks p q true false e ∙ mark-none marks p q e
-
 module _ (before after : List ℕ) where
   pub mark-begin : (marks : List Bool) → Marking marks before after 0
   mark-begin marks = record { agree = λ p h e s q. absurd (omega arith) }
 
-  one-more : (i p : ℕ) → ((s : ℕ) → s < i → eqb (getD before s 0) p ≡ eqb (getD after s 0) p) → eqb (getD before i 0) p ≡ eqb (getD after i 0) p
-      → (s : ℕ) → s < i + 1 → eqb (getD before s 0) p ≡ eqb (getD after s 0) p
-  one-more i p h e s q = go (ℕ-discrete s i)
-    where
-      go : Dec (s ≡ i) → eqb (getD before s 0) p ≡ eqb (getD after s 0) p
-      go (yes r) = rw r e
-      go (no r) = h s (omega arith)
+  abbrev agree-at : ℕ → ℕ → Type 0
+  agree-at p s = eqb (getD before s 0) p ≡ eqb (getD after s 0) p
 
   -- the targets are the same at slot i
   pub mark-skip : {marks : List Bool} {i : ℕ} → Marking marks before after i → getD before i 0 ≡ getD after i 0 → Marking marks before after (i + 1)
-  mark-skip {marks} {i} m e = record { agree = λ p h f. one-more i p (m .agree p h f) (ap (λ (t : ℕ). eqb t p) e) }
+  mark-skip {marks} {i} m e = record { agree = λ p h f. below-more (agree-at p) i (m .agree p h f) (ap (λ (t : ℕ). eqb t p) e) }
 
   -- the places of both are marked
   pub mark-both : {marks : List Bool} (next : List Bool) {last : List Bool} {i : ℕ} → Marking marks before after i
@@ -120,13 +94,10 @@ module _ (before after : List ℕ) where
       → Marking last before after (i + 1)
   mark-both {marks} next {last} {i} m x y = record {
     agree = λ p h f.
-        let b : (getD next p false || eqb p (getD after i 0)) ≡ false = sym (y p h) ∙ f in
-        let a : (getD marks p false || eqb p (getD before i 0)) ≡ false = sym (x p h) ∙ or-left _ _ b in
-        one-more i p (m .agree p h (or-left _ _ a)) (other p (getD before i 0) (or-right (getD marks p false) _ a) ∙ sym (other p (getD after i 0) (or-right (getD next p false) _ b)));
+        let b = or-false (getD next p false) _ (sym (y p h) ∙ f) in
+        let a = or-false (getD marks p false) _ (sym (x p h) ∙ b .0) in
+        below-more (agree-at p) i (m .agree p h (a .0)) (eqb-swap (getD before i 0) p ∙ a .1 ∙ sym (eqb-swap (getD after i 0) p ∙ b .1));
   }
-    where
-      other : (p t : ℕ) → eqb p t ≡ false → eqb t p ≡ false
-      other p t e = ne-eqb t p (λ r. eqb-false p t e (sym r))
 
   pub mark-end : {marks : List Bool} {i : ℕ} → length before ≡ slotCount → length after ≡ slotCount → slotCount ≤ i → Marking marks before after i → Marked marks before after
   mark-end k l h m = record {

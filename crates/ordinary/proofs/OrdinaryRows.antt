@@ -1,14 +1,13 @@
 -- The rows of an ordinary heartbeat by the tests that the code makes, one law for each row, in nested modules that carry the rows before it; and a plan
 -- carried out, which is the effect that the rules give. Assumes nothing.
 use Prim.Native.Nat.{ℕ, suc}
-use mathlib.Core.Path.{_≡_, refl, sym, ap, ap₂, _∙_, subst}
-use mathlib.Core.Bool.{Bool, true, false, _&&_, true≢false}
-use mathlib.Core.List.{List, [], _∷_}
+use mathlib.Core.Path.{_≡_, sym, ap, _∙_, subst}
+use mathlib.Core.Bool.{Bool, true, false, _&&_}
+use mathlib.Core.List.{List, []}
 use mathlib.Core.Option.{none, some}
 use lib.Dec.{eqb, leb}
 use lib.ListN.{length, set}
-use borrow.Author.Tests.{eqb-true}
-use Rattle.rules.specs.Basics.{if_then_else_, any, default, same}
+use Rattle.rules.specs.Basics.{if_then_else_, any, default}
 use Rattle.rules.specs.Constants.{lastEpoch, heartbeatInterval}
 use Rattle.rules.specs.Group as G
 use Rattle.rules.specs.Group.{Group, isMember, known, memberAt, placeOf}
@@ -21,6 +20,7 @@ use Rattle.rules.specs.declared.Refusal.the-variants.{Clock, InvalidRequest, Un
 use Rattle.records.specs.Stored.{ordinaryStored}
 use Rattle.group.specs.declared.Seat.{Seat}
 use Rattle.group.specs.View.{viewSeat, seated}
+use Rattle.rules.proofs.Lists.{same-eq}
 use Rattle.group.proofs.Rows.{raised-if}
 use Rattle.ordinary.specs.declared.plan.Plan.{Plan}
 use Rattle.events.specs.Outcomes.{carried, stepAs}
@@ -29,20 +29,10 @@ use Rattle.events.proofs.Carrying.{denied}
 
 -- ---- the member's ID
 
-same-equal : (a b : List ℕ) → same a b ≡ true → a ≡ b
-same-equal [] [] h = refl
-same-equal [] (y ∷ b) h = absurd (true≢false (sym h))
-same-equal (x ∷ a) [] h = absurd (true≢false (sym h))
-same-equal (x ∷ a) (y ∷ b) h = go (eqb x y) refl h (same-equal a b)
-  where
-    go : (t : Bool) → eqb x y ≡ t → (t && same a b) ≡ true → (same a b ≡ true → a ≡ b) → x ∷ a ≡ y ∷ b
-    go true e q ih = ap₂ (λ (z : ℕ) (l : List ℕ). z ∷ l) (eqb-true x y e) (ih q)
-    go false e q ih = absurd (true≢false (sym q))
-
 -- a seat that is found by an ID has it
 pub seat-id : (s : Seat) (id : List ℕ) → s .used ≡ true → isMember id (viewSeat s) ≡ true → s .id ≡ id
 unfolding viewSeat isMember
-seat-id s id u h = same-equal (s .id) id (sym (ap (λ (x : Bool). isMember id (if x then some (seated s) else none)) u) ∙ h)
+seat-id s id u h = same-eq (s .id) id (sym (ap (λ (x : Bool). isMember id (if x then some (seated s) else none)) u) ∙ h)
 
 -- ---- the rows
 

@@ -4,7 +4,7 @@ use Prim.Native.Nat.{ℕ, zero, suc, _+_, _≤_, _<_}
 use native.Mathlib.Omega.{arith}
 use native.Mathlib.Decide.{ℕ-discrete}
 use mathlib.Core.Path.{_≡_, refl, sym, ap, _∙_}
-use mathlib.Core.Bool.{Bool, true, false, _&&_, true≢false}
+use mathlib.Core.Bool.{Bool, true, false, _&&_, and-false, true≢false}
 use mathlib.Core.List.{List, _∷_}
 use lib.Dec.{eqb}
 use lib.ListN.{length}
@@ -32,10 +32,6 @@ behind g (suc n) b x xs h = go (g b) (behind g n (suc b) x xs (omega arith))
     go : (y : Bool) → same (select g (suc b) n) (x ∷ xs) ≡ false → same (keep y b (select g (suc b) n)) (x ∷ xs) ≡ false
     go true ih = rw (ne-eqb b x (λ e. omega arith))
     go false ih = ih
-
-and-false : (b : Bool) → (b && false) ≡ false
-and-false true = refl
-and-false false = refl
 
 -- a slot of one that the other has not
 differ : (f g : ℕ → Bool) (n b s : ℕ) → b ≤ s → s < b + n → (f s ≡ g s → ⊥) → same (select f b n) (select g b n) ≡ false

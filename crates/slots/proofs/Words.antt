@@ -1,7 +1,7 @@
 -- Sets as words, slot by slot, by `has`. Storing one word changes the slots of that word alone (`stored`), whence insert and remove; an operation on each
 -- word that is g on bits is g on sets (`wordwise`), whence union and difference.
 use mathlib.Core.Path.{_≡_, refl, sym, ap, ap₂, _∙_}
-use mathlib.Core.Bool.{Bool, true, false, not, _&&_, _||_, true≢false}
+use mathlib.Core.Bool.{Bool, true, false, not, _&&_, _||_, and-true, or-false, true≢false}
 use mathlib.Core.List.{List}
 use Prim.Native.Nat.{ℕ, _+_, _-_, _*_, _/_, _%_, _^_, _≤_, _<_}
 use native.Mathlib.Nat.{mod-lt, one-mul}
@@ -15,14 +15,6 @@ use lib.Bits.{bitAnd, bitOr}
 use borrow.Author.Tests.{eq-eqb, ne-eqb}
 use Rattle.slots.specs.Set.{bit, has}
 use Rattle.slots.proofs.Bits.{bit-and, bit-or, bit-not, bit-one, bit-zero}
-
-pub or-false : (b : Bool) → (b || false) ≡ b
-or-false true = refl
-or-false false = refl
-
-pub and-true : (b : Bool) → (b && true) ≡ b
-and-true true = refl
-and-true false = refl
 
 -- two slots of one word are told apart by their bits
 same-word : (s t : ℕ) → s / 64 ≡ t / 64 → eqb (s % 64) (t % 64) ≡ eqb s t

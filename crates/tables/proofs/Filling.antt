@@ -1,6 +1,6 @@
 -- A loop that fills the words of a set, slot by slot, and steps over slots that are not in it; and the four sets of a place filled together.
 use mathlib.Core.Path.{_≡_, refl, sym, ap, ap₂, _∙_}
-use mathlib.Core.Bool.{Bool, true, false, not, _&&_, _||_}
+use mathlib.Core.Bool.{Bool, true, false, not, _&&_, _||_, and-true, and-false, or-false}
 use mathlib.Core.List.{List}
 use Prim.Native.Nat.{ℕ, _+_, _*_, _/_, _%_, _^_, _≤_, _<_}
 use native.Mathlib.Decide.{ℕ-discrete, decLt}
@@ -9,20 +9,17 @@ use lib.Dec.{eqb}
 use lib.ListN.{length, getD, set, length-set, replicate, getD-replicate}
 use lib.Seq.{getD-set-same, getD-set-other}
 use lib.Bits.{bitOr}
+use borrow.Author.Count.{below-more}
 use borrow.Author.Tests.{eq-eqb, ne-eqb}
 use Rattle.rules.specs.Constants.{slotCount, noPlace}
 use Rattle.rules.specs.Group.{SlotState, freeSlot, assigned, revoking, targeted}
 use Rattle.slots.specs.Set.{bit, has}
 use Rattle.slots.proofs.Bits.{bit-or, bit-one}
-use Rattle.slots.proofs.Words.{shl-one, has-none, or-false, and-true}
+use Rattle.slots.proofs.Words.{shl-one, has-none}
 use Rattle.tables.specs.View.{viewLists}
 use Rattle.tables.specs.Places.{NoneNear, claimable}
 use Rattle.tables.proofs.Nearness.{far-a, far-q, far-m, far-c}
 use Rattle.tables.proofs.Viewing.{view-slot}
-
-and-false : (b : Bool) → (b && false) ≡ false
-and-false true = refl
-and-false false = refl
 
 -- the two arms of `mark`
 pub mark-on : (w b : ℕ) (on : Bool) → b < 64 → on ≡ true → (i : ℕ) → bit (bitOr w ((1 * 2 ^ b) % 2 ^ 64)) i ≡ (bit w i || (eqb i b && on))
@@ -56,7 +53,7 @@ pub fill-mark : (f : ℕ → Bool) (ws : List ℕ) (i v : ℕ) (on : Bool) → F
     → ((k : ℕ) → bit v k ≡ (bit (getD ws (i / 64) 0) k || (eqb k (i % 64) && on))) → Filled f (set ws (i / 64) v) (i + 1)
 fill-mark f ws i v on e h p q = record {
   len = length-set ws (i / 64) v ∙ e .len;
-  done = λ s l. below s l (ℕ-discrete s i);
+  done = below-more (λ s. has (set ws (i / 64) v) s ≡ f s) i (λ s l. other s (λ (r : s ≡ i). omega arith) ∙ e .done s l) here;
   left = λ s l. other s (λ (r : s ≡ i). omega arith) ∙ e .left s (omega arith);
 }
   where
@@ -78,10 +75,6 @@ fill-mark f ws i v on e h p q = record {
             ∙ q (s % 64) ∙ ap (λ (x : Bool). bit (getD ws (i / 64) 0) (s % 64) || (x && on)) (ne-eqb (s % 64) (i % 64) n)
             ∙ or-false (bit (getD ws (i / 64) 0) (s % 64)) ∙ ap (λ (x : ℕ). bit (getD ws x 0) (s % 64)) (sym d)
         go (no d) = ap (λ (x : ℕ). bit x (s % 64)) (getD-set-other ws (i / 64) (s / 64) v 0 d)
-
-    below : (s : ℕ) → s < i + 1 → Dec (s ≡ i) → has (set ws (i / 64) v) s ≡ f s
-    below s l (yes r) = ap (λ (x : ℕ). has (set ws (i / 64) v) x) r ∙ here ∙ ap f (sym r)
-    below s l (no r) = other s r ∙ e .done s (omega arith)
 
 -- one slot is marked, and those up to j are stepped over
 pub fill-to : (f : ℕ → Bool) (ws : List ℕ) (i v j : ℕ) (on : Bool) → Filled f ws i → i < slotCount → on ≡ f i

@@ -3,14 +3,10 @@ use Prim.Native.Nat.{ℕ, zero, suc, _<_}
 use native.Mathlib.Nat.{le-of-suc-le-suc, not-suc-le-zero}
 use native.Mathlib.Omega.{arith}
 use mathlib.Core.Path.{_≡_, refl, ap, ap₂, _∙_}
-use mathlib.Core.Bool.{Bool, true, false, _||_}
+use mathlib.Core.Bool.{Bool, true, false, _||_, or-true}
 use mathlib.Core.List.{List, [], _∷_, map}
-use lib.ListN.{length, getD, drop}
+use lib.ListN.{length, getD}
 use Rattle.rules.specs.Basics.{any}
-
-pub or-true : (b : Bool) → (b || true) ≡ true
-or-true true = refl
-or-true false = refl
 
 module _ {A : Type 0} (d : A) where
   pub any-off : (f : A → Bool) (l : List A) → ((i : ℕ) → i < length l → f (getD l i d) ≡ false) → any f l ≡ false
@@ -39,13 +35,6 @@ module _ {A : Type 0} where
   pub any-map : (f : A → Bool) (k : A → A) → ((x : A) → f (k x) ≡ f x) → (l : List A) → any f (map k l) ≡ any f l
   any-map f k h [] = refl
   any-map f k h (x ∷ l) = ap₂ _||_ (h x) (any-map f k h l)
-
--- a loop over a list that looks for an element
-module _ {A : Type 0} (f : A → Bool) where
-  pub any-at : (l : List A) (i : ℕ) (d : A) → i < length l → any f (drop i l) ≡ (f (getD l i d) || any f (drop (suc i) l))
-  any-at [] i d p = absurd (not-suc-le-zero p)
-  any-at (x ∷ l) zero d p = refl
-  any-at (x ∷ l) (suc i) d p = any-at l i d (le-of-suc-le-suc p)
 
 pub map-two : {A : Type 0} (f g : A → A) (l : List A) → map f (map g l) ≡ map (λ x. f (g x)) l
 map-two f g [] = refl

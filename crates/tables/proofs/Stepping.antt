@@ -4,7 +4,7 @@ use Prim.Native.Nat.{ℕ, _≤_, _<_}
 use native.Mathlib.Decide.{decLt}
 use native.Mathlib.Omega.{arith}
 use mathlib.Core.Path.{_≡_, refl, sym, ap, ap₂, _∙_}
-use mathlib.Core.Bool.{Bool, true, false, not, _&&_, _||_, true≢false}
+use mathlib.Core.Bool.{Bool, true, false, not, _&&_, _||_, and-false, or-true, true≢false}
 use mathlib.Core.List.{List, map}
 use mathlib.Core.Option.{Option}
 use lib.Dec.{eqb}
@@ -17,13 +17,13 @@ use Rattle.rules.specs.Effects.{waits, strays, advanced, frees, freed, afterFre
 use Rattle.slots.specs.Set.{has, slotsOf, TellsEmpty}
 use Rattle.slots.specs.declared.SlotSet.{SlotSet}
 use Rattle.slots.proofs.Words.{has-past, in-range, less-some}
-use Rattle.rules.proofs.Lists.{same-refl}
+use Rattle.rules.proofs.Lists.{or-false, same-refl}
 use Rattle.slots.proofs.Comparing.{unlike}
 use Rattle.tables.specs.Places.{claimable}
 use Rattle.tables.specs.Gathers.{Picks}
 use Rattle.tables.specs.Advances.{ownedOf, Advances}
 use Rattle.tables.specs.declared.advancing.Advance.{Advance}
-use Rattle.tables.proofs.Lists.{or-true, any-ext, any-map, map-at, map-same}
+use Rattle.tables.proofs.Lists.{any-ext, any-map, map-at, map-same}
 use Rattle.tables.proofs.Listing.{picks-any, picks-list}
 use Rattle.tables.proofs.Slotwise.{freeIf, stray-free, revoke-a, revoke-q, claim-a, claim-q, claim-none, not-yet}
 
@@ -56,11 +56,7 @@ module _ (p : ℕ) (vs : List SlotState) (len : length vs ≡ slotCount) (lt : p
 
   revoking-free : revoking p freeSlot ≡ false
   unfolding revoking freeSlot
-  revoking-free = go (eqb noPlace p)
-    where
-      go : (b : Bool) → (b && false) ≡ false
-      go true = refl
-      go false = refl
+  revoking-free = and-false (eqb noPlace p)
 
   module _ (given : Bool) (l : List ℕ) (a q m c : SlotSet) (la : length (a .words) ≡ 16) (lq : length (q .words) ≡ 16)
       (ha : Picks (assigned p) vs a) (hq : Picks (revoking p) vs q) (hm : Picks (targeted p) vs m) (hc : Picks (claimable p) vs c)
@@ -259,17 +255,13 @@ module _ (p : ℕ) (vs : List SlotState) (len : length vs ≡ slotCount) (lt : p
             moves = λ f. w;
           }
         where
-          first-none : (y z : Bool) → (y || z) ≡ false → y ≡ false
-          first-none true z e = e
-          first-none false z e = refl
-
           unchanged : (f k₁ : Bool) → (f || not k₁) ≡ false → fr ≡ f → ek ≡ k₁ → map (claimed p) (afterFree p vs (ownedOf given l)) ≡ vs
           unchanged true k₁ u v w = absurd (true≢false u)
           unchanged false false u v w = absurd (true≢false u)
           unchanged false true u v w =
               ap (map (claimed p)) (after-so ∙ ap (λ (b : Bool). if b then map (freed p) vs else vs) v)
-              ∙ map-same freeSlot (claimed p) vs (λ i h. claim-none p n at-self (getD vs i freeSlot) (sym (hc i (in-list i h)) ∙ first-none (has
-              (c .words) i) (has (d .words) i) (sym (hk i) ∙ eek .0 w i)))
+              ∙ map-same freeSlot (claimed p) vs (λ i h. claim-none p n at-self (getD vs i freeSlot) (sym (hc i (in-list i h)) ∙ or-false (has
+              (c .words) i) (has (d .words) i) (sym (hk i) ∙ eek .0 w i) .0))
 
           -- a slot that is claimed is in A after, and was not before
           in-k : (s : ℕ) → has (k .words) s ≡ true → (has (r .words) s ≡ true) × (has (a .words) s ≡ false)

@@ -1,6 +1,6 @@
 -- The three tables seen as one list of slots: its length, the slot at an index, a slot stored, another target.
 use Prim.Native.Nat.{ℕ, zero, suc, _≤_, _<_}
-use native.Mathlib.Nat.{le-of-suc-le-suc, not-suc-le-zero}
+use native.Mathlib.Nat.{le-of-suc-le-suc, not-suc-le-zero, suc-inj}
 use native.Mathlib.Decide.{decLt}
 use native.Mathlib.Omega.{arith}
 use mathlib.Core.Path.{_≡_, refl, sym, ap, _∙_}
@@ -16,10 +16,7 @@ pub view-length : (ts hs : List ℕ) (ws : List Bool) → length hs ≡ length t
 view-length [] hs ws p q = refl
 view-length (t ∷ ts) [] ws p q = p
 view-length (t ∷ ts) (h ∷ hs) [] p q = q
-view-length (t ∷ ts) (h ∷ hs) (w ∷ ws) p q = ap suc (view-length ts hs ws (suc-injective p) (suc-injective q))
-  where
-    suc-injective : {a b : ℕ} → suc a ≡ suc b → a ≡ b
-    suc-injective e = omega arith
+view-length (t ∷ ts) (h ∷ hs) (w ∷ ws) p q = ap suc (view-length ts hs ws (suc-inj p) (suc-inj q))
 
 pub view-at : (ts hs : List ℕ) (ws : List Bool) (i : ℕ) (d : SlotState) → i < length ts → i < length hs → i < length ws
     → getD (viewLists ts hs ws) i d ≡ record { target = getD ts i 0; holder = getD hs i 0; waiting = getD ws i false }

@@ -1,6 +1,6 @@
 -- The set has the slots of the list up to i. A number of 1024 or more is no slot, so that passing it over changes nothing below 1024.
 use mathlib.Core.Path.{_≡_, sym, ap, _∙_}
-use mathlib.Core.Bool.{Bool, false, _||_}
+use mathlib.Core.Bool.{Bool, false, _||_, or-false}
 use Prim.Native.Nat.{ℕ, _+_, _-_, _≤_, _<_}
 use native.Mathlib.Omega.{arith}
 use lib.Dec.{eqb}
@@ -10,7 +10,6 @@ use borrow.Author.Needs.{needs}
 use borrow.Author.Tests.{ne-eqb}
 use Rattle.rules.specs.Constants.{slotCount}
 use Rattle.slots.specs.Set.{has, listed}
-use Rattle.slots.proofs.Words.{or-false}
 use Rattle.slots.proofs.Listing.{listed-more}
 use Rattle.slots.proofs.of_list.Statement.{statement}
 use Rattle.slots.proofs.of_list.Tie as tie

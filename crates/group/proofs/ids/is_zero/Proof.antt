@@ -2,15 +2,15 @@
 use Prim.Native.Nat.{_-_, _≤_}
 use native.Mathlib.Omega.{arith}
 use native.Mathlib.Numerals.{add-one}
-use mathlib.Core.Path.{_≡_, refl, sym, _∙_}
+use mathlib.Core.Path.{_≡_, refl, sym, ap, _∙_}
 use lib.Dec.{eqb}
 use lib.ListN.{length, drop, drop-of-length-le}
+use lib.Seq.{drop-cons}
 use borrow.Author.Tests.{eq-eqb, ne-eqb}
 use borrow.Author.Needs.{needs}
 use Rattle.rules.specs.Basics.{all}
 use Rattle.rules.specs.Constants.{idLength}
 use Rattle.rules.specs.Refusals.{zeroId}
-use Rattle.group.proofs.Searching.{all-next}
 use Rattle.group.proofs.ids.is_zero.Statement.{statement}
 use Rattle.group.proofs.ids.is_zero.Tie as tie
 
@@ -30,7 +30,7 @@ returns : tie.Need-returns Inv-loop μ-loop
 unfolding zeroId
 returns c =
     let l = c .before .before .loop in
-    sym (l .inv .1 ∙ all-next (λ b. eqb b 0) (c .before .before .before .args .t1) (l .i) 0 (search needs) ∙ rw (ne-eqb _ _ (c .if1 .taken)))
+    sym (l .inv .1 ∙ ap (all (λ b. eqb b 0)) (drop-cons (c .before .before .before .args .t1) (l .i) 0 (search needs)) ∙ rw (ne-eqb _ _ (c .if1 .taken)))
 
 add-i : tie.Need-add-i Inv-loop μ-loop
 add-i c = search needs
@@ -41,7 +41,7 @@ loop-less c = search needs
 loop-again : tie.Need-loop-again Inv-loop μ-loop
 loop-again c =
     let l = c .before .before .loop in
-    (omega arith, l .inv .1 ∙ all-next (λ b. eqb b 0) (c .before .before .before .args .t1) (l .i) 0 (search needs) ∙ rw (eq-eqb _ _ (c .if1 .left), add-one (l .i)))
+    (omega arith, l .inv .1 ∙ ap (all (λ b. eqb b 0)) (drop-cons (c .before .before .before .args .t1) (l .i) 0 (search needs)) ∙ rw (eq-eqb _ _ (c .if1 .left), add-one (l .i)))
 
 returns-2 : tie.Need-returns-2 Inv-loop μ-loop
 unfolding zeroId

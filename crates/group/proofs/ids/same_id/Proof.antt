@@ -2,13 +2,13 @@
 use Prim.Native.Nat.{_-_, _≤_}
 use native.Mathlib.Omega.{arith}
 use native.Mathlib.Numerals.{add-one}
-use mathlib.Core.Path.{_≡_, refl, sym, _∙_}
+use mathlib.Core.Path.{_≡_, refl, sym, ap₂, _∙_}
 use lib.ListN.{length, drop, drop-of-length-le}
+use lib.Seq.{drop-cons}
 use borrow.Author.Tests.{eq-eqb, ne-eqb}
 use borrow.Author.Needs.{needs}
 use Rattle.rules.specs.Basics.{same}
 use Rattle.rules.specs.Constants.{idLength}
-use Rattle.group.proofs.Searching.{same-next}
 use Rattle.group.proofs.ids.same_id.Statement.{statement}
 use Rattle.group.proofs.ids.same_id.Tie as tie
 
@@ -31,7 +31,7 @@ returns : tie.Need-returns Inv-loop μ-loop
 returns c =
     let l = c .before .before .loop in
     let a = c .before .before .before .args in
-    sym (l .inv .1 ∙ same-next (a .t1) (a .t2) (l .i) (search needs) (search needs) ∙ rw (ne-eqb _ _ (c .if1 .taken)))
+    sym (l .inv .1 ∙ ap₂ same (drop-cons (a .t1) (l .i) 0 (search needs)) (drop-cons (a .t2) (l .i) 0 (search needs)) ∙ rw (ne-eqb _ _ (c .if1 .taken)))
 
 add-i : tie.Need-add-i Inv-loop μ-loop
 add-i c = search needs
@@ -43,7 +43,7 @@ loop-again : tie.Need-loop-again Inv-loop μ-loop
 loop-again c =
     let l = c .before .before .loop in
     let a = c .before .before .before .args in
-    (omega arith, l .inv .1 ∙ same-next (a .t1) (a .t2) (l .i) (search needs) (search needs) ∙ rw (eq-eqb _ _ (c .if1 .left), add-one (l .i)))
+    (omega arith, l .inv .1 ∙ ap₂ same (drop-cons (a .t1) (l .i) 0 (search needs)) (drop-cons (a .t2) (l .i) 0 (search needs)) ∙ rw (eq-eqb _ _ (c .if1 .left), add-one (l .i)))
 
 returns-2 : tie.Need-returns-2 Inv-loop μ-loop
 returns-2 c =

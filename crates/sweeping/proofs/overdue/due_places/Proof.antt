@@ -12,7 +12,7 @@ use Rattle.rules.specs.Effects.{due}
 use Rattle.rules.specs.Group.{revoking}
 use Rattle.group.proofs.Views.{seat-at}
 use Rattle.group.specs.View.{viewSeat}
-use Rattle.sweeping.proofs.Marking.{mark-set}
+use Rattle.slots.proofs.Each.{store-next}
 use Rattle.sweeping.proofs.overdue.due_places.Statement.{statement}
 use Rattle.sweeping.proofs.overdue.due_places.Tie as tie
 
@@ -53,7 +53,7 @@ loop-again c =
     let a = c .before .before .before .before .args in (
       omega arith,
       simp length-set (l .inv .1),
-      mark-set (λ p. due (a .tick) (getD (a .t2) p false) (getD (map viewSeat (a .t1)) p none)) (l .gone) (l .i) (c .is-due .result) (omega (arith, l .inv .1)) (l .inv .2)
+      store-next (λ p. due (a .tick) (getD (a .t2) p false) (getD (map viewSeat (a .t1)) p none)) false (l .gone) (l .i) (c .is-due .result) (omega (arith, l .inv .1)) (l .inv .2)
           (c .is-due .ensures ∙ ap (due (a .tick) (getD (a .t2) (l .i) false)) (sym (seat-at (a .t1) (l .i)))),
     )
 

@@ -2,12 +2,12 @@
 use native.Mathlib.Omega.{arith}
 use native.Mathlib.Numerals.{add-one}
 use Prim.Native.Nat.{ℕ, _+_, _-_, _≤_, _<_}
-use mathlib.Core.Path.{_≡_, refl, sym, _∙_}
+use mathlib.Core.Path.{_≡_, refl, sym, ap, _∙_}
 use mathlib.Core.Bool.{Bool, true, false, _||_}
 use lib.ListN.{length, drop, drop-of-length-le}
+use lib.Seq.{drop-cons}
 use Rattle.rules.specs.Basics.{any}
 use Rattle.slots.specs.Set.{has}
-use Rattle.tables.proofs.Lists.{any-at}
 use borrow.Author.Needs.{needs}
 use Rattle.tables.proofs.advancing.meets.Statement.{statement}
 use Rattle.tables.proofs.advancing.meets.Tie as tie
@@ -35,7 +35,7 @@ returns c =
     let a = c .before .before .before .before .before .before .args in
     let l = c .before .before .before .before .loop in
     let t = sym (c .before .holds .ensures) ∙ c .if1 .taken in
-    sym (l .inv .1 ∙ any-at (has (a .set .words)) (a .list .now) (l .i) 0 (search needs) ∙ rw t)
+    sym (l .inv .1 ∙ ap (any (has (a .set .words))) (drop-cons (a .list .now) (l .i) 0 (search needs)) ∙ rw t)
 
 add-i : tie.Need-add-i Inv-loop μ-loop
 add-i c = search needs
@@ -48,7 +48,7 @@ loop-again c =
     let a = c .before .before .before .before .before .before .args in
     let l = c .before .before .before .before .loop in
     let t = sym (c .before .holds .ensures) ∙ c .if1 .left in
-    (search needs, l .inv .1 ∙ any-at (has (a .set .words)) (a .list .now) (l .i) 0 (search needs) ∙ rw (t, add-one (l .i)))
+    (search needs, l .inv .1 ∙ ap (any (has (a .set .words))) (drop-cons (a .list .now) (l .i) 0 (search needs)) ∙ rw (t, add-one (l .i)))
 
 returns-2 : tie.Need-returns-2 Inv-loop μ-loop
 returns-2 c =

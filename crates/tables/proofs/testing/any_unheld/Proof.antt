@@ -7,10 +7,10 @@ use native.Mathlib.Numerals.{add-one}
 use mathlib.Core.List.{List}
 use lib.Dec.{eqb}
 use lib.ListN.{length, getD, drop, drop-of-length-le}
+use lib.Seq.{drop-cons}
 use borrow.Author.Tests.{eq-eqb, ne-eqb, not-true, not-false}
 use Rattle.rules.specs.Basics.{any}
 use Rattle.rules.specs.Constants.{slotCount, noPlace}
-use Rattle.tables.proofs.Lists.{any-at}
 use borrow.Author.Needs.{needs}
 use Rattle.tables.proofs.testing.any_unheld.Statement.{statement}
 use Rattle.tables.proofs.testing.any_unheld.Tie as tie
@@ -42,7 +42,7 @@ returns c =
     let a = c .before .before .before .before .before .before .args in
     let l = c .before .before .before .before .loop in
     let t = ap not (ap (λ (h : ℕ). eqb h (a .p)) (sym (c .before .holder-at .ensures)) ∙ ne-eqb _ _ (c .if1 .taken)) in
-    sym (l .inv .1 ∙ any-at (unheld (a .holder .now) (a .p)) (a .list .now) (l .i) 0 (search needs) ∙ ap (λ (b : Bool). b || any (unheld
+    sym (l .inv .1 ∙ ap (any (unheld (a .holder .now) (a .p))) (drop-cons (a .list .now) (l .i) 0 (search needs)) ∙ ap (λ (b : Bool). b || any (unheld
     (a .holder .now) (a .p)) (drop (suc (l .i)) (a .list .now))) t)
 
 add-i : tie.Need-add-i Inv-loop μ-loop
@@ -57,7 +57,7 @@ loop-again c =
     let l = c .before .before .before .before .loop in
     let t = ap not (ap (λ (h : ℕ). eqb h (a .p)) (sym (c .before .holder-at .ensures)) ∙ eq-eqb _ _ (c .if1 .left)) in (
       search needs,
-      l .inv .1 ∙ any-at (unheld (a .holder .now) (a .p)) (a .list .now) (l .i) 0 (search needs) ∙ ap (λ (b : Bool). b || any (unheld
+      l .inv .1 ∙ ap (any (unheld (a .holder .now) (a .p))) (drop-cons (a .list .now) (l .i) 0 (search needs)) ∙ ap (λ (b : Bool). b || any (unheld
           (a .holder .now) (a .p)) (drop (suc (l .i)) (a .list .now))) t ∙ rw (add-one (l .i)),
     )
 

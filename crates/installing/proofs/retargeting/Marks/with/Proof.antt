@@ -4,7 +4,7 @@ use mathlib.Core.Path.{_≡_}
 use lib.ListN.{length}
 use borrow.Author.Needs.{needs}
 use Rattle.rules.specs.Constants.{maxMembers}
-use Rattle.installing.proofs.Targets.{mark-set, mark-none}
+use Rattle.events.proofs.Places.{mark-set, mark-none}
 use Rattle.installing.proofs.retargeting.Marks.with.Statement.{statement}
 use Rattle.installing.proofs.retargeting.Marks.with.Tie as tie
 
