@@ -45,7 +45,7 @@ pub fn put_group_epoch(buf: &mut [u8], epoch: u32) -> usize
 pub fn group_epoch_len(epoch: u32) -> usize
     ensures { λ r. ⌜ (r ≡ length (bytesOf (groupEpoch epoch))) × (r ≤ 6) ⌝ }
 {
-    1 + numbers::number_len(epoch)
+    1 + numbers::number_len(epoch) // the kind, 3, takes one byte
 }
 
 // Record 4: a topic.
@@ -112,7 +112,7 @@ pub fn put_target_epoch(buf: &mut [u8], epoch: u32) -> usize
 pub fn target_epoch_len(epoch: u32) -> usize
     ensures { λ r. ⌜ (r ≡ length (bytesOf (targetEpoch epoch))) × (r ≤ 6) ⌝ }
 {
-    1 + numbers::number_len(epoch)
+    1 + numbers::number_len(epoch) // the kind, 6, takes one byte
 }
 
 // Record 7: the target of a place.
