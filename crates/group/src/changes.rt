@@ -19,10 +19,10 @@ use tables::Tables;
 pub fn stamped(g: Group, epoch: u32, tick: u32) -> Group
     ensures { λ r. ⌜ view r ≡ changed (view g) epoch tick (view g .members) (view g .slots) ⌝ }
 {
-    let mut next = g;
-    next.epoch = epoch;
-    next.tick = tick;
-    next
+    let mut after = g;
+    after.epoch = epoch;
+    after.tick = tick;
+    after
 }
 
 // The group with another seat at a place, other tables, and another group epoch and tick.

@@ -84,9 +84,9 @@ impl Member {
         ensures { λ r. ⌜ r ≡ memberFreed self ⌝ }
     {
         let none = SlotSet { words: [0; WORDS] };
-        let mut next = self;
-        next.revoking = none;
-        next
+        let mut freed = self;
+        freed.revoking = none;
+        freed
     }
 
     // The strays move to P at a tick, and A keeps the rest.
@@ -114,18 +114,18 @@ impl Member {
     pub fn store(self, subscription: u16, timeout: u32) -> Member
         ensures { λ r. ⌜ r ≡ memberStored self subscription timeout ⌝ }
     {
-        let mut next = self;
-        next.subscription = subscription;
-        next.timeout = timeout;
-        next
+        let mut stored = self;
+        stored.subscription = subscription;
+        stored.timeout = timeout;
+        stored
     }
 
     // The member is heard at a tick.
     pub fn hear(self, tick: u32) -> Member
         ensures { λ r. ⌜ r ≡ memberHeard self tick ⌝ }
     {
-        let mut next = self;
-        next.heard = tick;
-        next
+        let mut later = self;
+        later.heard = tick;
+        later
     }
 }
