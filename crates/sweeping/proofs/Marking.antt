@@ -14,6 +14,7 @@ use Rattle.rules.specs.Basics.{any}
 use Rattle.rules.specs.Constants.{maxMembers, slotCount}
 use Rattle.rules.specs.Group.{SlotState, freeSlot, revoking, targeted}
 use Rattle.tables.specs.View.{viewLists}
+use Rattle.tables.proofs.Lists.{any-off}
 use Rattle.tables.proofs.Viewing.{view-slots, view-slot}
 use Rattle.events.proofs.Places.{eqb-swap, mark-set}
 use Rattle.sweeping.specs.Marks.{Marks}
@@ -73,10 +74,13 @@ module _ (ts hs : List ℕ) (ws : List Bool) (nt : length ts ≡ slotCount) (nh 
     unfolding targeted
     targeted-is p = rw (view-slot ts hs ws nt nh nw i h freeSlot)
 
+    none-here : getD ws i false ≡ false → (p : ℕ) → revoking p (getD (viewLists ts hs ws) i freeSlot) ≡ false
+    none-here w p = revoking-is p ∙ ap (λ (x : Bool). eqb (getD hs i 0) p && x) w ∙ and-false (eqb (getD hs i 0) p)
+
     module _ {marks : List Bool} (m : Marking revoking (viewLists ts hs ws) marks i) where
       -- the slot is not to be given back
       pub revoking-none : getD ws i false ≡ false → Marking revoking (viewLists ts hs ws) marks (i + 1)
-      revoking-none w = mark-none revoking (viewLists ts hs ws) m within (λ p q. revoking-is p ∙ ap (λ (x : Bool). eqb (getD hs i 0) p && x) w ∙ and-false (eqb (getD hs i 0) p))
+      revoking-none w = mark-none revoking (viewLists ts hs ws) m within (λ p q. none-here w p)
 
       -- it is, and o is its holder: the place of a member, or none
       module _ (w : getD ws i false ≡ true) {o : ℕ} (e : o ≡ getD hs i 0) where
@@ -99,3 +103,9 @@ module _ (ts hs : List ℕ) (ws : List Bool) (nt : length ts ≡ slotCount) (nh 
 
       pub targeted-past : maxMembers ≤ o → Marking targeted (viewLists ts hs ws) marks (i + 1)
       targeted-past k = mark-none targeted (viewLists ts hs ws) m within (λ p q. there p ∙ ne-eqb o p (λ (x : o ≡ p). omega arith))
+
+  -- no slot is to be given back
+  pub none-revoking : ((s : ℕ) → s < slotCount → getD ws s false ≡ false) → Marks revoking (viewLists ts hs ws) (replicate maxMembers false)
+  none-revoking z =
+      λ p q. getD-replicate maxMembers p false false q
+      ∙ sym (any-off freeSlot (revoking p) (viewLists ts hs ws) (λ i h. let l : i < slotCount = omega (arith, view-slots ts hs ws nt nh nw) in none-here l (z i l) p))

@@ -24,8 +24,22 @@ fn index(p: u8) -> usize
     p as usize
 }
 
-// The places that hold some slot which they are to give back.
-fn revoking_places<'a>(holder: &'a [u8; SLOTS], waiting: &'a [bool; SLOTS]) -> [bool; MEMBERS]
+// Whether some slot waits to be given back; `false` only where none does. Without a branch in the loop, so that a pass costs little: mostly none waits.
+fn any_waits(waiting: &[bool; SLOTS]) -> bool
+    requires { ⌜ length (now waiting) ≡ slotCount ⌝ }
+    ensures { λ r. ⌜ (r ≡ false → (s : ℕ) → s < slotCount → getD (now (waiting .entry)) s false ≡ false) ⌝ }
+{
+    let mut some = false;
+    let mut i: usize = 0;
+    while i < SLOTS {
+        some = some | waiting[i];
+        i += 1;
+    }
+    some
+}
+
+// The places that hold some slot which they are to give back, slot by slot.
+fn mark_revoking<'a>(holder: &'a [u8; SLOTS], waiting: &'a [bool; SLOTS]) -> [bool; MEMBERS]
     requires { ⌜ (length (now holder) ≡ slotCount) × (length (now waiting) ≡ slotCount) ⌝ }
     ensures { λ r. ⌜ ((ts : List ℕ) → length ts ≡ slotCount → Marks revoking (viewLists ts (now (holder .entry)) (now (waiting .entry))) r) ⌝ }
 {
@@ -42,6 +56,17 @@ fn revoking_places<'a>(holder: &'a [u8; SLOTS], waiting: &'a [bool; SLOTS]) -> [
         }
     }
     marks
+}
+
+// The places that hold some slot which they are to give back. The slots are gone through only where some waits.
+fn revoking_places<'a>(holder: &'a [u8; SLOTS], waiting: &'a [bool; SLOTS]) -> [bool; MEMBERS]
+    requires { ⌜ (length (now holder) ≡ slotCount) × (length (now waiting) ≡ slotCount) ⌝ }
+    ensures { λ r. ⌜ ((ts : List ℕ) → length ts ≡ slotCount → Marks revoking (viewLists ts (now (holder .entry)) (now (waiting .entry))) r) ⌝ }
+{
+    if any_waits(waiting) {
+        return mark_revoking(holder, waiting);
+    }
+    [false; MEMBERS]
 }
 
 // The places that are the target of some slot.
