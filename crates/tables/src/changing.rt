@@ -1,12 +1,13 @@
 // What becomes of the tables. Only the slots that are near the place change, so that one loop from one such slot to the next serves every change.
 ghost use mathlib.Core.Path.{_≡_};
 ghost use mathlib.Core.List.{map};
-ghost use Prim.Native.Nat.{_+_, _<_};
+ghost use Prim.Native.Nat.{_+_, _≤_, _<_};
 ghost use lib.Dec.{eqb};
 ghost use Rattle.rules.specs.Basics.{if_then_else_};
-ghost use Rattle.rules.specs.Constants.{noPlace};
+ghost use Rattle.rules.specs.Constants.{slotCount, noPlace};
 ghost use Rattle.rules.specs.Effects.{vacated, freed, revoked, claimed, retargeted};
 ghost use Rattle.tables.specs.View.{viewTables, viewLists};
+ghost use Rattle.tables.specs.Places.{NoneNear};
 ghost use Rattle.tables.specs.Changes.{viewEntry, movedBy, changeBy};
 use crate::Tables;
 use crate::advancing::Advance;
@@ -123,19 +124,22 @@ fn change_one(what: Change, e: Entry, p: u8) -> Entry
     }
 }
 
+// Each slot changed, where none before `first` is near p.
 fn change_lists(
     target: [u8; SLOTS],
     holder: [u8; SLOTS],
     waiting: [bool; SLOTS],
     what: Change,
     p: u8,
+    first: usize,
 ) -> Tables
+    requires { ⌜ (first ≤ slotCount) × NoneNear p target holder 0 first ⌝ }
     ensures { λ r. ⌜ viewTables r ≡ map (changeBy what p) (viewLists target holder waiting) ⌝ }
 {
     let mut t = target;
     let mut h = holder;
     let mut w = waiting;
-    let mut i = crate::searching::next_near(&t, &h, p, 0);
+    let mut i = first;
     while i < SLOTS {
         let e = Entry {
             target: t[i],
@@ -155,14 +159,19 @@ fn change_lists(
     }
 }
 
-// The tables with each slot changed; the slots that are not near p are not looked at one by one.
+// The tables with each slot changed; the slots that are not near p are not looked at one by one. Where none is near, the tables stay as they are, and none
+// of them is copied.
 fn change_tables(tables: Tables, what: Change, p: u8) -> Tables
     ensures { λ r. ⌜ viewTables r ≡ map (changeBy what p) (viewTables tables) ⌝ }
 {
-    let target = tables.target;
-    let holder = tables.holder;
-    let waiting = tables.waiting;
-    change_lists(target, holder, waiting, what, p)
+    let first = crate::searching::next_near(&tables.target, &tables.holder, p, 0);
+    if first < SLOTS {
+        let target = tables.target;
+        let holder = tables.holder;
+        let waiting = tables.waiting;
+        return change_lists(target, holder, waiting, what, p, first);
+    }
+    tables
 }
 
 // The tables after steps 2 and 3, written only if A or P changed.

@@ -6,15 +6,13 @@ ghost use lib.Dec.{eqb};
 ghost use lib.ListN.{length, getD};
 ghost use Rattle.rules.specs.Basics.{any};
 ghost use Rattle.rules.specs.Constants.{slotCount, noPlace};
-ghost use Rattle.rules.specs.Group.{revoking, targeted, setM};
-ghost use Rattle.slots.specs.Set.{slotsOf};
+ghost use Rattle.rules.specs.Group.{targeted};
 ghost use Rattle.tables.specs.View.{viewTables};
 ghost use Rattle.tables.specs.Places.{holderNot};
 use crate::Tables;
 use rules::NO_PLACE;
 use rules::Place;
 use rules::SLOTS;
-use slots::SlotSet;
 
 // The holder of slot s, which may be any number; 255 for a number that is no slot.
 fn holder_at(holder: &[u8; SLOTS], s: u16) -> u8
@@ -56,20 +54,5 @@ impl Tables {
     {
         let sets = self.gather(p);
         !sets.target.is_empty()
-    }
-
-    // Whether p is to give some slot back.
-    pub fn is_revoking(self, p: Place) -> bool
-        ensures { λ r. ⌜ r ≡ any (revoking (p .0)) (viewTables self) ⌝ }
-    {
-        let sets = self.gather(p);
-        !sets.revoking.is_empty()
-    }
-
-    // The slots whose target is p.
-    pub fn target_set(self, p: Place) -> SlotSet
-        ensures { λ r. ⌜ slotsOf (r .words) ≡ setM (p .0) (viewTables self) ⌝ }
-    {
-        slots::gather(&self.target, p.0)
     }
 }

@@ -15,41 +15,37 @@ use Rattle.tables.proofs.changing.change_lists.Statement.{statement}
 use Rattle.tables.proofs.changing.change_lists.Tie as tie
 
 abbrev Inv-loop : tie.InvT-loop
-Inv-loop what p t₀ h₀ w₀ i₀ t h w i =
+Inv-loop what p first t₀ h₀ w₀ i₀ t h w i =
     (i ≤ slotCount) × (viewLists t h w ≡ part (changeBy what p) i (viewLists t₀ h₀ w₀))
     × (length t ≡ slotCount) × (length h ≡ slotCount) × (length w ≡ slotCount)
 
 abbrev μ-loop : tie.MeasureT-loop
-μ-loop what p t₀ h₀ w₀ i₀ t h w i = slotCount - i
-
-next-near-requires : tie.Need-next-near-requires Inv-loop μ-loop
-next-near-requires c κs = search needs
+μ-loop what p first t₀ h₀ w₀ i₀ t h w i = slotCount - i
 
 loop-holds : tie.Need-loop-holds Inv-loop μ-loop
 loop-holds c =
-    let a = c .before .before .before .args in
+    let a = c .args in
     let nt : length (a .target) ≡ slotCount = search needs in
     let nh : length (a .holder) ≡ slotCount = search needs in
     let nw : length (a .waiting) ≡ slotCount = search needs in
     let f = changeBy (a .what) (a .p) in
     let v = viewLists (a .target) (a .holder) (a .waiting) in
-    let e = c .next-near .ensures in (
-      e .1,
-      on-to (a .p) f (change-near (a .p) (a .what)) v (a .target) (a .holder) (a .waiting) nt nh nw 0 (c .next-near .result) refl (e .0) (e .1)
-          (e .2),
+    let e = c .pre in (
+      e .0,
+      on-to (a .p) f (change-near (a .p) (a .what)) v (a .target) (a .holder) (a .waiting) nt nh nw 0 (a .first) refl (omega arith) (e .0) (e .1),
       nt,
       nh,
       nw,
     )
 
-array-read-t17 : tie.Need-array-read-t17 Inv-loop μ-loop
-array-read-t17 c = search needs
+array-read-t16 : tie.Need-array-read-t16 Inv-loop μ-loop
+array-read-t16 c = search needs
 
-array-read-t20 : tie.Need-array-read-t20 Inv-loop μ-loop
-array-read-t20 c = search needs
+array-read-t19 : tie.Need-array-read-t19 Inv-loop μ-loop
+array-read-t19 c = search needs
 
-array-read-t14 : tie.Need-array-read-t14 Inv-loop μ-loop
-array-read-t14 c = search needs
+array-read-t13 : tie.Need-array-read-t13 Inv-loop μ-loop
+array-read-t13 c = search needs
 
 change-one-requires : tie.Need-change-one-requires Inv-loop μ-loop
 change-one-requires c κs = search needs
@@ -66,15 +62,15 @@ array-write-w c = search needs
 add-next-near : tie.Need-add-next-near Inv-loop μ-loop
 add-next-near c = search needs
 
-next-near-requires-2 : tie.Need-next-near-requires-2 Inv-loop μ-loop
-next-near-requires-2 c κs = let l = c .before .before .before .before .loop in (simp length-set (l .inv .2), simp length-set (l .inv .3), omega arith)
+next-near-requires : tie.Need-next-near-requires Inv-loop μ-loop
+next-near-requires c κs = let l = c .before .before .before .before .loop in (simp length-set (l .inv .2), simp length-set (l .inv .3), omega arith)
 
 loop-less : tie.Need-loop-less Inv-loop μ-loop
-loop-less c = let n = c .next-near2 .ensures .0 in omega (arith, n)
+loop-less c = let n = c .next-near .ensures .0 in omega (arith, n)
 
 loop-again : tie.Need-loop-again Inv-loop μ-loop
 loop-again c =
-    let a = c .before .before .before .before .before .before .before .before .before .args in
+    let a = c .before .before .before .before .before .before .args in
     let l = c .before .before .before .before .before .loop in
     let nt : length (a .target) ≡ slotCount = search needs in
     let nh : length (a .holder) ≡ slotCount = search needs in
@@ -86,14 +82,14 @@ loop-again c =
     let q = c .before .before .before .change-one .ensures ∙ ap f (sym (view-slot (l .t) (l .h) (l .w) (l .inv .2) (l .inv .3) (l .inv .4) (l .i)
     (omega arith) freeSlot)) in
     let s = view-set (l .t) (l .h) (l .w) (l .i) r ∙ part-more f v (viewLists (l .t) (l .h) (l .w)) (l .i) r freeSlot (l .inv .1) (omega arith) q in
-    let e = c .next-near2 .ensures in
+    let e = c .next-near .ensures in
     let mt : length (set (l .t) (l .i) (r .target)) ≡ slotCount = simp length-set (l .inv .2) in
     let mh : length (set (l .h) (l .i) (r .holder)) ≡ slotCount = simp length-set (l .inv .3) in
     let mw : length (set (l .w) (l .i) (r .waiting)) ≡ slotCount = simp length-set (l .inv .4) in (
       e .1,
       on-to (a .p) f (change-near (a .p) (a .what)) v (set (l .t) (l .i) (r .target)) (set (l .h) (l .i) (r .holder)) (set (l .w) (l .i)
           (r .waiting)) mt mh mw
-          (l .i + 1) (c .next-near2 .result) s (e .0) (e .1) (e .2),
+          (l .i + 1) (c .next-near .result) s (e .0) (e .1) (e .2),
       mt,
       mh,
       mw,
@@ -102,7 +98,7 @@ loop-again c =
 returns : tie.Need-returns Inv-loop μ-loop
 unfolding viewTables
 returns c =
-    let a = c .before .before .before .before .before .args in
+    let a = c .before .before .args in
     let l = c .before .loop in
     let nt : length (a .target) ≡ slotCount = search needs in
     let nh : length (a .holder) ≡ slotCount = search needs in
@@ -116,17 +112,16 @@ change-lists-spec =
     (tie.spec
     Inv-loop
     μ-loop
-    next-near-requires
     loop-holds
-    array-read-t17
-    array-read-t20
-    array-read-t14
+    array-read-t16
+    array-read-t19
+    array-read-t13
     change-one-requires
     array-write-t
     array-write-h
     array-write-w
     add-next-near
-    next-near-requires-2
+    next-near-requires
     loop-less
     loop-again
     returns)
