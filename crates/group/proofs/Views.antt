@@ -11,6 +11,7 @@ use lib.ListN.{length, getD, set, length-map, List·getD-map, List·getD-eq-defa
 use lib.Seq.{set-out}
 use borrow.Author.Tests.{ne-eqb}
 use Rattle.rules.specs.Constants.{clockLimit, lastEpoch}
+use Rattle.rules.specs.Group as G
 use Rattle.rules.specs.Group.{elapsed}
 use Rattle.rules.specs.Refusals.{goesBack, atEnd}
 use Rattle.rules.specs.Effects.{changed, withTopic, remove, vacated}
@@ -19,7 +20,7 @@ use Rattle.tables.specs.declared.Tables.{Tables}
 use Rattle.group.specs.declared.Group.{Group}
 use Rattle.group.specs.declared.Seat.{Seat}
 use Rattle.group.specs.declared.Topic.{Topic}
-use Rattle.group.specs.View.{view, viewSeat, viewTopic}
+use Rattle.group.specs.View.{view, viewSeat, viewTopic, withEntry}
 
 -- ---- lists
 
@@ -68,18 +69,21 @@ at-end-is g = refl
 -- ---- replaced
 
 -- a topic and the group epoch
-pub view-topic : (g : Group) (t : ℕ) (id : List ℕ) (n e : ℕ) → 1 ≤ n
-    → view (record { epoch = e; «target_epoch» = g .«target_epoch»; tick = g .tick; topics = set (g .topics) t (record { id = id; count = n }); seats = g .seats; tables = g .tables })
-    ≡ withTopic (view g) t id n e
-unfolding view withTopic viewTopic
-view-topic g t id n e h =
-    let z : eqb n 0 ≡ false = ne-eqb n 0 (λ q. omega arith) in
-    rw (map-set, z)
+pub view-topic : (g : Group) (n : ℕ) (t : Topic) (e : ℕ)
+    → view (record { epoch = e; «target_epoch» = g .«target_epoch»; tick = g .tick; topics = set (g .topics) n t; seats = g .seats; tables = g .tables })
+    ≡ withEntry (view g) n (viewTopic t) e
+unfolding view withEntry
+view-topic g n t e = rw map-set
 
-pub view-no-topic : (g : Group) (t : ℕ) (id : List ℕ) (n e : ℕ) → length (g .topics) ≤ t
-    → view (record { epoch = e; «target_epoch» = g .«target_epoch»; tick = g .tick; topics = g .topics; seats = g .seats; tables = g .tables }) ≡ withTopic (view g) t id n e
-unfolding view withTopic
-view-no-topic g t id n e h = rw (past-set viewTopic (g .topics) t (some (record { id = id; count = n })) h)
+pub view-no-topic : (g : Group) (n : ℕ) (t : Topic) (e : ℕ) → length (g .topics) ≤ n
+    → view (record { epoch = e; «target_epoch» = g .«target_epoch»; tick = g .tick; topics = g .topics; seats = g .seats; tables = g .tables }) ≡ withEntry (view g) n (viewTopic t) e
+unfolding view withEntry
+view-no-topic g n t e h = rw (past-set viewTopic (g .topics) n (viewTopic t) h)
+
+-- a topic with partitions is one of the rules
+pub entry-topic : (g : G.Group) (t : ℕ) (id : List ℕ) (n e : ℕ) → 1 ≤ n → withEntry g t (viewTopic (record { id = id; count = n })) e ≡ withTopic g t id n e
+unfolding withEntry withTopic viewTopic
+entry-topic g t id n e h = let z : eqb n 0 ≡ false = ne-eqb n 0 (λ q. omega arith) in rw z
 
 -- a seat, the tables, the group epoch and the tick
 module _ (g : Group) (p e tick : ℕ) (s : Seat) (ts : Tables) where

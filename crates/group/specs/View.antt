@@ -1,7 +1,9 @@
 -- The group of the rules that a value of the crate's struct stands for.
+use Prim.Native.Nat.{ℕ}
 use mathlib.Core.List.{map}
 use mathlib.Core.Option.{Option, none, some}
 use lib.Dec.{eqb}
+use lib.ListN.{set}
 use Rattle.rules.specs.Basics.{if_then_else_}
 use Rattle.rules.specs.Group as G
 use Rattle.tables.specs.View.{viewTables}
@@ -28,4 +30,15 @@ view g = record {
   topics = map viewTopic (g .topics);
   members = map viewSeat (g .seats);
   slots = viewTables (g .tables);
+}
+
+-- the group with another entry of its topics, which may be none, and another group epoch
+unfoldable pub withEntry : G.Group → ℕ → Option G.Topic → ℕ → G.Group
+withEntry g number topic epoch = record {
+  epoch = epoch;
+  targetEpoch = g .targetEpoch;
+  tick = g .tick;
+  topics = set (g .topics) number topic;
+  members = g .members;
+  slots = g .slots;
 }

@@ -1,11 +1,9 @@
 // The group with a part of it replaced. A place or a topic's number past the last replaces nothing.
 ghost use mathlib.Core.Path.{_≡_};
-ghost use mathlib.Core.Option.{none};
-ghost use Prim.Native.Nat.{_≤_};
 ghost use lib.ListN.{set};
-ghost use Rattle.rules.specs.Effects.{changed, withTopic, withTarget};
+ghost use Rattle.rules.specs.Effects.{changed, remove, withTarget};
 ghost use Rattle.tables.specs.View.{viewTables};
-ghost use Rattle.group.specs.View.{view, viewSeat};
+ghost use Rattle.group.specs.View.{view, viewSeat, viewTopic, withEntry};
 use crate::Group;
 use crate::Seat;
 use crate::Topic;
@@ -41,17 +39,19 @@ pub fn with_seat(g: Group, p: Place, seat: Seat, tables: Tables, epoch: u32, tic
     next
 }
 
-// The group with no member at a place and other tables.
-pub fn without_member(g: Group, p: Place, tables: Tables) -> Group
-    ensures { λ r. ⌜ view r ≡ changed (view g) (g .epoch) (g .tick) (set (view g .members) (p .0) none) (viewTables tables) ⌝ }
+// The group without the member at a place and without what the place holds; its epoch and tick stay.
+pub fn remove_member(g: Group, p: Place) -> Group
+    ensures { λ r. ⌜ view r ≡ remove (view g) (p .0) ⌝ }
 {
+    let tables = g.tables;
+    let rest = tables.vacate(p);
     let vacant = Seat::vacant();
-    with_seat(g, p, vacant, tables, g.epoch, g.tick)
+    with_seat(g, p, vacant, rest, g.epoch, g.tick)
 }
 
-// The group with another topic and group epoch.
+// The group with another topic of a number, and another group epoch. With count 0 there is no such topic.
 pub fn with_topic(g: Group, number: u32, id: Id, count: u8, epoch: u32) -> Group
-    ensures { λ r. ⌜ (1 ≤ count → view r ≡ withTopic (view g) number id count epoch) ⌝ }
+    ensures { λ r. ⌜ view r ≡ withEntry (view g) number (viewTopic (record { id = id; count = count })) epoch ⌝ }
 {
     let mut next = g;
     next.epoch = epoch;

@@ -3,7 +3,7 @@ ghost use mathlib.Core.Path.{_≡_};
 ghost use mathlib.Core.List.{List};
 ghost use Prim.Native.Nat.{ℕ};
 ghost use Rattle.rules.specs.Refusals.{leaves};
-ghost use Rattle.rules.specs.Effects.{remove, leaveAt};
+ghost use Rattle.rules.specs.Effects.{leaveAt};
 ghost use Rattle.group.specs.View.{view};
 ghost use Rattle.events.specs.Outcomes.{took, requestOf, carried, stepAs};
 use events::Outcome;
@@ -21,15 +21,6 @@ use rules::Answer;
 use rules::Place;
 use rules::Refusal;
 
-// The group without the member at a place and without what the place holds; its epoch and tick stay.
-pub fn remove_member(g: Group, p: Place) -> Group
-    ensures { λ r. ⌜ view r ≡ remove (view g) (p .0) ⌝ }
-{
-    let tables = g.tables;
-    let rest = tables.vacate(p);
-    changes::without_member(g, p, rest)
-}
-
 // The member at a place leaves.
 fn leave_at(g: Group, p: Place, tick: u32, records: &mut [u8]) -> Outcome
     ensures { λ r. ⌜ ((l : List ℕ) → took r (now (records .exit)) l ≡ carried (view g) (leaveAt (view g) (p .0) tick) (now (records .entry)) l) ⌝ }
@@ -43,7 +34,7 @@ fn leave_at(g: Group, p: Place, tick: u32, records: &mut [u8]) -> Outcome
         return refused(g, Refusal::Room);
     }
     let written = batches::put_leave_records(records, p, retargets, raises, epoch);
-    let rest = remove_member(g, p);
+    let rest = changes::remove_member(g, p);
     Outcome {
         group: changes::stamped(rest, epoch, tick),
         answer: Answer::Left,

@@ -111,7 +111,7 @@ fn remove_marked(g: Group, gone: [bool; MEMBERS]) -> Group
         let p = i;
         i += 1;
         if gone[p] {
-            rest = leaving::remove_member(rest, Place(p as u8));
+            rest = changes::remove_member(rest, Place(p as u8));
         }
     }
     rest

@@ -1,10 +1,11 @@
 -- The records and the group are those of the effect.
 use native.Mathlib.Omega.{arith}
-use mathlib.Core.Path.{_≡_, refl}
+use mathlib.Core.Path.{_≡_, refl, _∙_}
 use borrow.Author.Needs.{needs}
 use Rattle.rules.specs.Effects.{topicRecords, topicEffect}
 use Rattle.rules.specs.declared.Answer.the-variants.{Done}
 use Rattle.group.proofs.Rows.{topic-good}
+use Rattle.group.proofs.Views.{entry-topic}
 use Rattle.group.specs.View.{view}
 use Rattle.events.proofs.Storing.{too-long, stored}
 use Rattle.topics.proofs.TopicRows.{topic-records, topic-group}
@@ -62,7 +63,7 @@ returns-2 c =
     λ l.
     let a = c .before .before .before .before .before .before .before .before .before .before .args in
     let n = c .before .before .before .before .before .before .before .before .before .before .pre in
-    let v = c .with-topic .ensures (topic-good (view (a .g)) (a .number) (a .id) (a .count) (n .0) .1) in
+    let v = c .with-topic .ensures ∙ entry-topic (view (a .g)) (a .number) (a .id) (a .count) (c .before .before .before .before .before .before .before .epoch-after .result) (topic-good (view (a .g)) (a .number) (a .id) (a .count) (n .0) .1) in
     stored (topicEffect (view (a .g)) (a .number) (a .id) (a .count)) (recorded (c .before .before .before .before .before .before)) (a .records .now) l (view (a .g))
     (record { group = c .with-topic .result; answer = Done; written = c .before .before .before .put-topic-records .result }) refl
     (omega (arith, c .before .before .before .before .before .before .topic-records-len .ensures .0, c .before .before .before .before .before .if1 .left)) refl

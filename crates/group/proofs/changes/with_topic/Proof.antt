@@ -1,4 +1,4 @@
--- At a number of the array the topic is replaced, and with a count it is viewed; past the end nothing is, in the view either. Assumes nothing.
+-- At a number of the array the topic is replaced; past the end nothing is, in the view either. Assumes nothing.
 use native.Mathlib.Omega.{arith}
 use mathlib.Core.Path.{_≡_}
 use lib.ListN.{length}
@@ -15,14 +15,13 @@ element-set-from-next : tie.Need-element-set-from-next
 element-set-from-next c = search needs
 
 returns : tie.Need-returns
-returns c = λ h. let a = c .before .args in view-topic (a .g) (a .number) (a .id) (a .count) (a .epoch) h
+returns c = let a = c .before .args in view-topic (a .g) (a .number) (record { id = a .id; count = a .count }) (a .epoch)
 
 returns-2 : tie.Need-returns-2
 returns-2 c =
-    λ _.
     let a = c .before .args in
     let h : length (a .g .topics) ≡ topicCount = search (needs, unmapped) in
-    view-no-topic (a .g) (a .number) (a .id) (a .count) (a .epoch) (omega arith)
+    view-no-topic (a .g) (a .number) (record { id = a .id; count = a .count }) (a .epoch) (omega arith)
 
 pub with-topic-spec : {M : Type 1} → statement M
 with-topic-spec = tie.close (tie.spec mul-t10 element-set-from-next returns returns-2)
