@@ -10,7 +10,7 @@ use mathlib.Core.Option.{some}
 use lib.Dec.{eqb}
 use lib.ListN.{length, set}
 use borrow.Author.Tests.{ne-eqb}
-use Rattle.rules.specs.Basics.{any, default, empty}
+use Rattle.rules.specs.Basics.{if_then_else_, any, default, empty}
 use Rattle.rules.specs.Constants.{heartbeatInterval}
 use Rattle.rules.specs.Group.{Group, known, placeOf, vacant, lowestFree, targeted, nobody}
 use Rattle.rules.specs.Records.{allBytes}
@@ -86,6 +86,12 @@ module _ (g : Group) (id : List ℕ) where
 
   pub free-place : {r : Found} → known g id ≡ false → Finds (any vacant (g .members)) (lowestFree g) r → Chooses g id (record { place = r; known = false })
   free-place k f = record { known-is = sym k; place-is = rw k f }
+
+  -- the place of a member that is known is its own
+  pub known-place : {p : ℕ} {k : Bool} → k ≡ known g id → Hit (hasPlace g id) (placeFor g id) p → k ≡ true → Hit (known g id) (placeOf g id) p
+  known-place e h t =
+      let i : known g id ≡ true = sym e ∙ t in
+      record { found = i; first = sym (ap (λ (x : Bool). if x then placeOf g id else lowestFree g) i) ∙ h .first; below = h .below }
 
 -- the code's place and its word on whether the ID is known
 pub joins-there : (g : Group) (b : E.Request) {p : ℕ} {k : Bool} (buf l : List ℕ) → k ≡ known g (b .id) → placeFor g (b .id) ≡ p

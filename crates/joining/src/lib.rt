@@ -1,7 +1,7 @@
 // A join: a heartbeat with epoch 0. A known member keeps its place, another takes the lowest free one; either starts there with no slots and no target,
 // at the group epoch that its join raises.
 ghost use mathlib.Core.Path.{_≡_};
-ghost use mathlib.Core.Bool.{_&&_, _||_};
+ghost use mathlib.Core.Bool.{true, _&&_, _||_};
 ghost use mathlib.Core.List.{List};
 ghost use Prim.Native.Nat.{ℕ, _<_};
 ghost use Rattle.rules.specs.Basics.{any, default};
@@ -10,6 +10,7 @@ ghost use Rattle.rules.specs.Group.{targeted};
 ghost use Rattle.rules.specs.Refusals.{joins, malformed, lacking};
 ghost use Rattle.rules.specs.Effects.{joinAt};
 ghost use Rattle.tables.specs.View.{viewTables};
+ghost use Rattle.group.specs.Members.{joinedAs};
 ghost use Rattle.group.specs.View.{view};
 ghost use Rattle.events.specs.Outcomes.{took, subscriptionOf, requestOf, carried, stepAs};
 ghost use Rattle.joining.specs.Joining.{Chooses};
@@ -22,6 +23,7 @@ use group::Group;
 use group::Seat;
 use group::changes;
 use group::epochs;
+use group::member::Member;
 use group::requests;
 use group::seats;
 use group::ticks;
@@ -38,6 +40,12 @@ use tables::Tables;
 struct Choice {
     place: Found,
     known: bool,
+}
+
+// The seat of a member that joins, and whether it loses a target.
+struct Joiner {
+    seat: Seat,
+    retargets: bool,
 }
 
 // The second part of row 42: whether a join lacks a subscription, a timeout or an empty list.
@@ -96,26 +104,51 @@ fn subscription_of(b: Request) -> u16
     0
 }
 
-// Whether a member that joins again loses a target; a new one has none to lose.
-fn loses_target(tables: Tables, p: Place, known: bool) -> bool
-    ensures { λ r. ⌜ r ≡ (known && any (targeted (p .0)) (viewTables tables)) ⌝ }
+// The member that joins at place p, where the seat was `had`: a known one joins again, with no slots; another is new, and has no target to lose, so that
+// the tables are gathered only for a known one.
+fn joiner_at(
+    tables: Tables,
+    had: Seat,
+    p: Place,
+    known: bool,
+    b: Request,
+    epoch: u32,
+    subscription: u16,
+    timeout: u32,
+) -> Joiner
+    requires { ⌜ (known ≡ true → had .id ≡ b .id) ⌝ }
+    ensures { λ r. ⌜ (r .seat ≡ joinedAs (b .id) epoch subscription timeout (b .tick)) × (r .retargets ≡ (known && any (targeted (p .0)) (viewTables tables))) ⌝ }
 {
     if known {
-        return tables.has_target(p);
+        let sets = tables.gather(p);
+        let assigned = sets.assigned;
+        let revoking = sets.revoking;
+        let target = sets.target;
+        let member = Member::gathered(had, assigned, revoking);
+        let again = member.rejoin(epoch, subscription, timeout, b.tick);
+        return Joiner {
+            seat: again.seat(),
+            retargets: !target.is_empty(),
+        };
     }
-    false
+    let id = b.id;
+    Joiner {
+        seat: Seat::joined(id, epoch, subscription, timeout, b.tick),
+        retargets: false,
+    }
 }
 
-// The join at a place: only the last row, 1003, is left to try. If the records do not fit the buffer, nothing changes.
-fn join_at(g: Group, p: Place, known: bool, b: Request, records: &mut [u8]) -> Outcome
-    requires { ⌜ g .epoch < lastEpoch ⌝ }
+// The join at a place, where the seat was `had`: only the last row, 1003, is left to try. If the records do not fit the buffer, nothing changes.
+fn join_at(g: Group, had: Seat, p: Place, known: bool, b: Request, records: &mut [u8]) -> Outcome
+    requires { ⌜ (g .epoch < lastEpoch) × (known ≡ true → had .id ≡ b .id) ⌝ }
     ensures { λ r. ⌜ ((owned l : List ℕ) → took r (now (records .exit)) l ≡ carried (view g) (joinAt (view g) (p .0) known (requestOf b owned)) (now (records .entry)) l) ⌝ }
 {
     let tables = g.tables;
-    let retargets = loses_target(tables, p, known);
     let epoch = g.epoch + 1;
     let timeout = requests::timeout_or(b.timeout, 0);
     let subscription = subscription_of(b);
+    let joiner = joiner_at(tables, had, p, known, b, epoch, subscription, timeout);
+    let retargets = joiner.retargets;
     let id = b.id;
     let size = batches::join_records_len(p, retargets, id, timeout, subscription, epoch);
     if records.len() < size {
@@ -131,7 +164,7 @@ fn join_at(g: Group, p: Place, known: bool, b: Request, records: &mut [u8]) -> O
         epoch,
     );
     let after = tables.vacate(p);
-    let seat = Seat::joined(id, epoch, subscription, timeout, b.tick);
+    let seat = joiner.seat;
     Outcome {
         group: changes::with_seat(g, p, seat, after, epoch, b.tick),
         answer: Answer::Assigned(Assignment {
@@ -162,5 +195,7 @@ pub fn join(g: Group, b: Request, owned: &[u16], records: &mut [u8]) -> Outcome
     if epochs::at_end(g.epoch) {
         return refused(g, Refusal::EpochEnd);
     }
-    join_at(g, p, choice.known, b, records)
+    let places = g.seats;
+    let had = seats::seat_at(places, p);
+    join_at(g, had, p, choice.known, b, records)
 }

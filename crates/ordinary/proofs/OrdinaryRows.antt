@@ -4,13 +4,13 @@ use Prim.Native.Nat.{ℕ, suc}
 use mathlib.Core.Path.{_≡_, sym, ap, _∙_, subst}
 use mathlib.Core.Bool.{Bool, true, false, _&&_}
 use mathlib.Core.List.{List, []}
-use mathlib.Core.Option.{none, some}
+use mathlib.Core.Option.{some}
 use lib.Dec.{eqb, leb}
 use lib.ListN.{length, set}
 use Rattle.rules.specs.Basics.{if_then_else_, any, default}
 use Rattle.rules.specs.Constants.{lastEpoch, heartbeatInterval}
 use Rattle.rules.specs.Group as G
-use Rattle.rules.specs.Group.{Group, isMember, known, memberAt, placeOf}
+use Rattle.rules.specs.Group.{Group, known, memberAt, placeOf}
 use Rattle.rules.specs.Event.{Request}
 use Rattle.rules.specs.Refusals.{ordinary, firstOf, heartbeatTable, goesBack, malformed, notHeldBy, resubscribes, atEnd}
 use Rattle.rules.specs.Effects.{changed, groupEpochAfter, heartbeatEffect, memberAfter, ordinaryEffect, ordinaryRecords}
@@ -18,21 +18,11 @@ use Rattle.rules.specs.Step.{carryOut}
 use Rattle.rules.specs.declared.Answer.the-variants.{Assigned}
 use Rattle.rules.specs.declared.Refusal.the-variants.{Clock, InvalidRequest, UnknownMemberId, FencedMemberEpoch, EpochEnd}
 use Rattle.records.specs.Stored.{ordinaryStored}
-use Rattle.group.specs.declared.Seat.{Seat}
-use Rattle.group.specs.View.{viewSeat, seated}
-use Rattle.rules.proofs.Lists.{same-eq}
 use Rattle.group.proofs.Rows.{raised-if}
 use Rattle.ordinary.specs.declared.plan.Plan.{Plan}
 use Rattle.events.specs.Outcomes.{carried, stepAs}
 use Rattle.ordinary.specs.Plans.{PlanIs, planned, ordinaryAt}
 use Rattle.events.proofs.Carrying.{denied}
-
--- ---- the member's ID
-
--- a seat that is found by an ID has it
-pub seat-id : (s : Seat) (id : List ℕ) → s .used ≡ true → isMember id (viewSeat s) ≡ true → s .id ≡ id
-unfolding viewSeat isMember
-seat-id s id u h = same-eq (s .id) id (sym (ap (λ (x : Bool). isMember id (if x then some (seated s) else none)) u) ∙ h)
 
 -- ---- the rows
 

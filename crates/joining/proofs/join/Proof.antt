@@ -9,12 +9,12 @@ use Rattle.rules.specs.Group as G
 use Rattle.rules.specs.Refusals.{goesBack, malformed, lacking}
 use Rattle.group.specs.Searches.{Hit}
 use Rattle.group.specs.View.{view}
-use Rattle.group.proofs.Finding.{hit, miss}
+use Rattle.group.proofs.Finding.{hit, miss, found-same}
 use Rattle.group.proofs.Views.{goes-back-is, at-end-is}
 use Rattle.joining.specs.Joining.{hasPlace, placeFor}
 use Rattle.events.specs.Outcomes.{requestOf}
 use Rattle.events.proofs.Carrying.{took-refused}
-use Rattle.joining.proofs.JoinRows.{row-clock, row-invalid, row-full, row-end, join-step, joins-there}
+use Rattle.joining.proofs.JoinRows.{row-clock, row-invalid, row-full, row-end, join-step, known-place, joins-there}
 use Rattle.joining.proofs.join.Statement.{statement}
 use Rattle.joining.proofs.join.Tie as tie
 
@@ -104,8 +104,18 @@ returns-4 c =
     took-refused b l (c .refused4 .ensures)
     ∙ sym (row-end (group s) (request s) b l (in-time (c .before .before .before .before .before .before .before .before .before .before)) (well-formed (c .before .before .before .before .before .before .before .before)) (chosen (c .before .before .before .before) .found) e)
 
+seat-at-requires : tie.Need-seat-at-requires
+seat-at-requires c κs = tt
+
+-- the seat at the place of a known member has its ID
 join-at-requires : tie.Need-join-at-requires
-join-at-requires c κs = leb-false _ _ (sym (c .before .before .at-end .ensures) ∙ c .before .if3 .left)
+unfolding requestOf
+join-at-requires c κs =
+    let a = c .before .before .before .before .before .before .before .before .before .before .before .before .before .before .before .before .args in
+    let s = c .before .seat-at in (
+      leb-false _ _ (sym (c .before .before .before .before .at-end .ensures) ∙ c .before .before .before .if3 .left),
+      λ k. found-same (a .g) (a .b .id) (known-place (view (a .g)) (a .b .id) (c .before .before .before .before .before .before .before .before .choose-place .ensures .known-is) (chosen (c .before .before .before .before .before .before)) k) (s .result) (s .ensures),
+    )
 
 same-length : tie.Need-same-length
 same-length c = search needs
@@ -114,13 +124,13 @@ returns-5 : tie.Need-returns-5
 unfolding requestOf
 returns-5 c =
     λ l.
-    let s = c .before .before .before .before .before .before .before .before .before .before .before .before .before .before .before .before .before in
+    let s = c .before .before .before .before .before .before .before .before .before .before .before .before .before .before .before .before .before .before .before in
     let b = s .args .records .now in
-    let at = chosen (c .before .before .before .before .before .before .before) in
-    let e = sym (at-end-is (s .args .g)) ∙ sym (c .before .before .before .before .before .at-end .ensures) ∙ c .before .before .before .before .if3 .left in
+    let at = chosen (c .before .before .before .before .before .before .before .before .before) in
+    let e = sym (at-end-is (s .args .g)) ∙ sym (c .before .before .before .before .before .before .before .at-end .ensures) ∙ c .before .before .before .before .before .before .if3 .left in
     c .before .before .join-at .ensures (s .args .owned .now) l
-    ∙ joins-there (group s) (request s) b l (c .before .before .before .before .before .before .before .before .before .choose-place .ensures .known-is) (at .first)
-    ∙ sym (join-step (group s) (request s) b l (in-time (c .before .before .before .before .before .before .before .before .before .before .before .before .before)) (well-formed (c .before .before .before .before .before .before .before .before .before .before .before)) (at .found) e)
+    ∙ joins-there (group s) (request s) b l (c .before .before .before .before .before .before .before .before .before .before .before .choose-place .ensures .known-is) (at .first)
+    ∙ sym (join-step (group s) (request s) b l (in-time (c .before .before .before .before .before .before .before .before .before .before .before .before .before .before .before)) (well-formed (c .before .before .before .before .before .before .before .before .before .before .before .before .before)) (at .found) e)
 
 pub join-spec : {M : Type 1} → statement M
 join-spec =
@@ -140,6 +150,7 @@ join-spec =
     at-end-requires
     refused-requires-4
     returns-4
+    seat-at-requires
     join-at-requires
     same-length
     returns-5)

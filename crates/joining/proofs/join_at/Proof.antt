@@ -11,17 +11,17 @@ use borrow.Author.Needs.{needs}
 use Rattle.joining.proofs.join_at.Statement.{statement}
 use Rattle.joining.proofs.join_at.Tie as tie
 
-loses-target-requires : tie.Need-loses-target-requires
-loses-target-requires c κs = tt
-
 add-epoch : tie.Need-add-epoch
-add-epoch c = omega arith
+add-epoch c = omega (arith, c .before .before .before .pre .0)
 
 timeout-or-requires : tie.Need-timeout-or-requires
 timeout-or-requires c κs = tt
 
 subscription-of-requires : tie.Need-subscription-of-requires
 subscription-of-requires c κs = tt
+
+joiner-at-requires : tie.Need-joiner-at-requires
+joiner-at-requires c κs = c .before .before .before .before .before .before .pre .1
 
 join-records-len-requires : tie.Need-join-records-len-requires
 join-records-len-requires c κs = tt
@@ -30,9 +30,9 @@ refused-requires : tie.Need-refused-requires
 refused-requires c κs = tt
 
 -- the timeout is handed on as it came
-timeout-is : (c : tie.After-timeout-or) → c .timeout-or .result ≡ timeoutOr (c .before .before .before .before .before .before .args .b .timeout) 0
+timeout-is : (c : tie.After-timeout-or) → c .timeout-or .result ≡ timeoutOr (c .before .before .before .before .before .args .b .timeout) 0
 timeout-is c =
-    let f : SFits w32 (c .before .before .before .before .before .before .args .b .timeout) = search needs in
+    let f : SFits w32 (c .before .before .before .before .before .args .b .timeout) = search needs in
     c .timeout-or .ensures ∙ ap (λ (t : _). timeoutOr t 0) (toZ-ofZ f)
 
 returns : tie.Need-returns
@@ -40,7 +40,7 @@ returns c =
     λ owned l.
     let a = c .before .before .before .before .before .before .before .before .before .before .before .args in
     join-no-room (a .g) (a .p .0) (a .known) (a .b) owned
-    (timeout-is (c .before .before .before .before .before)) (c .before .before .before .before .subscription-of .ensures) (c .before .before .before .before .before .before .before .before .loses-target .ensures)
+    (timeout-is (c .before .before .before .before .before .before)) (c .before .before .before .before .before .subscription-of .ensures) (c .before .before .before .before .joiner-at .ensures .1)
     (a .records .now) l
     (omega (arith, c .before .before .join-records-len .ensures .0, c .before .if1 .taken)) (c .refused .ensures)
 
@@ -49,9 +49,6 @@ put-join-records-requires c κs = omega (arith, c .before .before .join-records-
 
 vacate-requires : tie.Need-vacate-requires
 vacate-requires c κs = tt
-
-joined-requires : tie.Need-joined-requires
-joined-requires c κs = tt
 
 with-seat-requires : tie.Need-with-seat-requires
 with-seat-requires c κs = tt
@@ -63,26 +60,26 @@ returns-2 : tie.Need-returns-2
 returns-2 c =
     λ owned l.
     let a = c .before .before .before .before .before .before .before .before .before .before .before .before .before .before .before .before .before .args in
+    let joiner = c .before .before .before .before .before .before .before .before .before .before .joiner-at in
     join-done (a .g) (a .p .0) (a .known) (a .b) owned
-    (timeout-is (c .before .before .before .before .before .before .before .before .before .before .before)) (c .before .before .before .before .before .before .before .before .before .before .subscription-of .ensures) (c .before .before .before .before .before .before .before .before .before .before .before .before .before .before .loses-target .ensures)
+    (timeout-is (c .before .before .before .before .before .before .before .before .before .before .before .before)) (c .before .before .before .before .before .before .before .before .before .before .before .subscription-of .ensures) (joiner .ensures .1)
     (a .records .now) l (c .before .before .vacate .result) (c .with-seat .result)
     (omega (arith, c .before .before .before .before .before .before .before .before .join-records-len .ensures .0, c .before .before .before .before .before .before .before .if1 .left))
-    (c .before .joined .ensures) (c .before .before .vacate .ensures) (c .with-seat .ensures) (c .before .before .before .before .before .put-join-records .ensures)
+    (joiner .ensures .0) (c .before .before .vacate .ensures) (c .with-seat .ensures) (c .before .before .before .before .before .put-join-records .ensures)
 
 pub join-at-spec : {M : Type 1} → statement M
 join-at-spec =
     tie.close
     (tie.spec
-    loses-target-requires
     add-epoch
     timeout-or-requires
     subscription-of-requires
+    joiner-at-requires
     join-records-len-requires
     refused-requires
     returns
     put-join-records-requires
     vacate-requires
-    joined-requires
     with-seat-requires
     same-length
     returns-2)

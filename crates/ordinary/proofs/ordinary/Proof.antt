@@ -14,10 +14,10 @@ use Rattle.rules.specs.Refusals.{goesBack, malformed, notHeldBy}
 use Rattle.group.specs.View.{view, seated}
 use Rattle.group.specs.Searches.{Hit}
 use Rattle.group.proofs.Views.{goes-back-is}
-use Rattle.group.proofs.Finding.{hit, miss, found-id, found-used, found-member}
+use Rattle.group.proofs.Finding.{hit, miss, found-same, found-member}
 use Rattle.events.specs.Outcomes.{requestOf}
 use Rattle.events.proofs.Carrying.{took-refused}
-use Rattle.ordinary.proofs.OrdinaryRows.{seat-id, row-clock, row-malformed, row-unknown, row-fenced, row-unheld, rows-passed}
+use Rattle.ordinary.proofs.OrdinaryRows.{row-clock, row-malformed, row-unknown, row-fenced, row-unheld, rows-passed}
 use Rattle.ordinary.proofs.ordinary.Statement.{statement}
 use Rattle.ordinary.proofs.ordinary.Tie as tie
 
@@ -134,7 +134,7 @@ ordinary-at-requires c κs =
     let a = c .before .before .before .before .before .before .before .before .before .before .before .before .before .before .before .before .before .before .before .before .args in
     let h = found (c .before .before .before .before .before .before .before .before .before) in
     let s = c .before .before .before .before .before .before .seat-at in
-    (h .first, found-member (a .g) (a .b .id) h (s .result) (s .ensures), seat-id (s .result) (a .b .id) (found-used (a .g) (a .b .id) h (s .result) (s .ensures)) (found-id (a .g) (a .b .id) h (s .result) (s .ensures)), h .below)
+    (h .first, found-member (a .g) (a .b .id) h (s .result) (s .ensures), found-same (a .g) (a .b .id) h (s .result) (s .ensures), h .below)
 
 same-length : tie.Need-same-length
 same-length c = search needs
