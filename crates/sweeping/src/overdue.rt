@@ -74,16 +74,16 @@ pub fn target_places(target: &[u8; SLOTS]) -> [bool; MEMBERS]
     requires { ⌜ length (now target) ≡ slotCount ⌝ }
     ensures { λ r. ⌜ ((hs : List ℕ) (ws : List Bool) → length hs ≡ slotCount → length ws ≡ slotCount → Marks targeted (viewLists (now (target .entry)) hs ws) r) ⌝ }
 {
-    let mut marks = [false; MEMBERS];
+    let mut targets = [false; MEMBERS];
     let mut next: usize = 0;
     while next < SLOTS {
         let p = index(target[next]);
         next += 1;
         if p < MEMBERS {
-            marks[p] = true;
+            targets[p] = true;
         }
     }
-    marks
+    targets
 }
 
 // The places whose members are due at a tick, by the marks of those with slots to give back.

@@ -32,8 +32,8 @@ index-requires c κs = tt
 add-next : tie.Need-add-next Inv-loop μ-loop
 add-next c = omega arith
 
-array-write-marks : tie.Need-array-write-marks Inv-loop μ-loop
-array-write-marks c = search needs
+array-write-targets : tie.Need-array-write-targets Inv-loop μ-loop
+array-write-targets c = search needs
 
 loop-less : tie.Need-loop-less Inv-loop μ-loop
 loop-less c = omega arith
@@ -77,7 +77,7 @@ target-places-spec =
     element-copy-out-index
     index-requires
     add-next
-    array-write-marks
+    array-write-targets
     loop-less
     loop-again
     loop-less-2
