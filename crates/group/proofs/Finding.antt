@@ -6,9 +6,9 @@ use mathlib.Core.Bool.{Bool, true, false}
 use mathlib.Core.List.{List, map}
 use mathlib.Core.Option.{none, some}
 use lib.ListN.{getD}
-use Rattle.rules.specs.Basics.{if_then_else_, default}
+use Rattle.rules.specs.Basics.{if_then_else_, any, default, find}
 use Rattle.rules.specs.Group as G
-use Rattle.rules.specs.Group.{isMember, known, placeOf, memberAt}
+use Rattle.rules.specs.Group.{isMember, known, placeOf, memberAt, vacant, lowestFree}
 use Rattle.rules.specs.declared.Place.{Place}
 use Rattle.rules.proofs.Lists.{find-holds, same-eq}
 use Rattle.group.specs.declared.Found.{Found}
@@ -28,6 +28,17 @@ module _ {there : Bool} {r : Found} where
   pub miss : (place : ℕ) → r ≡ Nowhere → Finds there place r → there ≡ false
   unfolding Finds
   miss place e f = subst (Finds there place) e f
+
+-- ---- in the group that has the seats
+
+module _ (g : Group) where
+  pub known-in : (id : List ℕ) (r : Found) → Finds (any (isMember id) (map viewSeat (g .seats))) (find (isMember id) (map viewSeat (g .seats))) r → Finds (known (view g) id) (placeOf (view g) id) r
+  unfolding known placeOf view
+  known-in id r f = f
+
+  pub free-in : (r : Found) → Finds (any vacant (map viewSeat (g .seats))) (find vacant (map viewSeat (g .seats))) r → Finds (any vacant (view g .members)) (lowestFree (view g)) r
+  unfolding lowestFree view
+  free-in r f = f
 
 -- ---- the member that was found
 

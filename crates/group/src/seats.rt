@@ -4,13 +4,12 @@ ghost use mathlib.Core.List.{map};
 ghost use mathlib.Core.Option.{none};
 ghost use lib.ListN.{getD};
 ghost use Rattle.rules.specs.Basics.{any, find};
-ghost use Rattle.rules.specs.Group.{isMember, known, placeOf, vacant, lowestFree, subscribes};
+ghost use Rattle.rules.specs.Group.{isMember, vacant, subscribes};
 ghost use Rattle.rules.specs.Effects.{due};
-ghost use Rattle.group.specs.View.{view, viewSeat};
+ghost use Rattle.group.specs.View.{viewSeat};
 ghost use Rattle.group.specs.Members.{joinedAs};
 ghost use Rattle.group.specs.Searches.{Finds};
 use crate::Found;
-use crate::Group;
 use crate::Seat;
 use crate::ids;
 use crate::ticks;
@@ -76,7 +75,7 @@ fn has_id(s: Seat, id: Id) -> bool
 }
 
 // The first place whose member has an ID.
-pub fn find_id(seats: [Seat; MEMBERS], id: Id) -> Found
+pub fn find_member(seats: [Seat; MEMBERS], id: Id) -> Found
     ensures { λ r. ⌜ Finds (any (isMember id) (map viewSeat seats)) (find (isMember id) (map viewSeat seats)) r ⌝ }
 {
     let mut i: usize = 0;
@@ -88,14 +87,6 @@ pub fn find_id(seats: [Seat; MEMBERS], id: Id) -> Found
         i += 1;
     }
     Found::Nowhere
-}
-
-// The place of the member with an ID.
-pub fn find_member(g: Group, id: Id) -> Found
-    ensures { λ r. ⌜ Finds (known (view g) id) (placeOf (view g) id) r ⌝ }
-{
-    let seats = g.seats;
-    find_id(seats, id)
 }
 
 // Whether no member is at this place.
@@ -118,14 +109,6 @@ pub fn find_vacant(seats: [Seat; MEMBERS]) -> Found
         i += 1;
     }
     Found::Nowhere
-}
-
-// The lowest free place.
-pub fn lowest_free(g: Group) -> Found
-    ensures { λ r. ⌜ Finds (any vacant (view g .members)) (lowestFree (view g)) r ⌝ }
-{
-    let seats = g.seats;
-    find_vacant(seats)
 }
 
 // Whether the member at this place subscribes to a topic.

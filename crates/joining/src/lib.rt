@@ -11,6 +11,7 @@ ghost use Rattle.rules.specs.Refusals.{joins, malformed, lacking};
 ghost use Rattle.rules.specs.Effects.{joinAt};
 ghost use Rattle.tables.specs.View.{viewTables};
 ghost use Rattle.group.specs.Members.{joinedAs};
+ghost use Rattle.group.specs.declared.Group as S;
 ghost use Rattle.group.specs.View.{view};
 ghost use Rattle.events.specs.Outcomes.{took, subscriptionOf, requestOf, carried, stepAs};
 ghost use Rattle.joining.specs.Joining.{Chooses};
@@ -32,6 +33,7 @@ use rules::Answer;
 use rules::Assignment;
 use rules::HEARTBEAT_INTERVAL;
 use rules::Id;
+use rules::MEMBERS;
 use rules::Place;
 use rules::Refusal;
 use tables::Tables;
@@ -74,18 +76,18 @@ fn is_bad_join(b: Request, owned: &[u16]) -> bool
     is_lacking(b, owned)
 }
 
-// The place of the member with an ID, or else the lowest free one.
-fn choose_place(g: Group, id: Id) -> Choice
-    ensures { λ r. ⌜ Chooses (view g) id r ⌝ }
+// The place of the member with an ID, or else the lowest free one, in every group that has these seats.
+fn choose_place(places: [Seat; MEMBERS], id: Id) -> Choice
+    ensures { λ r. ⌜ ((g : S.Group) → g .seats ≡ places → Chooses (view g) id r) ⌝ }
 {
-    let own = seats::find_member(g, id);
+    let own = seats::find_member(places, id);
     match own {
         Found::At(p) => Choice {
             place: own,
             known: true,
         },
         Found::Nowhere => {
-            let free = seats::lowest_free(g);
+            let free = seats::find_vacant(places);
             Choice {
                 place: free,
                 known: false,
@@ -187,7 +189,8 @@ pub fn join(g: Group, b: Request, owned: &[u16], records: &mut [u8]) -> Outcome
         return refused(g, Refusal::InvalidRequest);
     }
     let id = b.id;
-    let choice = choose_place(g, id);
+    let places = g.seats;
+    let choice = choose_place(places, id);
     let found = choice.place;
     let Found::At(p) = found else {
         return refused(g, Refusal::GroupMaxSizeReached);
@@ -195,7 +198,6 @@ pub fn join(g: Group, b: Request, owned: &[u16], records: &mut [u8]) -> Outcome
     if epochs::at_end(g.epoch) {
         return refused(g, Refusal::EpochEnd);
     }
-    let places = g.seats;
     let had = seats::seat_at(places, p);
     join_at(g, had, p, choice.known, b, records)
 }

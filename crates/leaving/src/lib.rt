@@ -54,7 +54,8 @@ pub fn leave(g: Group, b: Request, records: &mut [u8]) -> Outcome
     if ids::is_zero(id) {
         return refused(g, Refusal::InvalidRequest);
     }
-    let found = seats::find_member(g, id);
+    let places = g.seats;
+    let found = seats::find_member(places, id);
     match found {
         Found::At(p) => leave_at(g, p, tick, records),
         Found::Nowhere => refused(g, Refusal::UnknownMemberId),

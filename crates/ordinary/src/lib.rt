@@ -138,11 +138,11 @@ pub fn ordinary(
         return refused(g, Refusal::InvalidRequest);
     }
     let id = b.id;
-    let found = seats::find_member(g, id);
+    let places = g.seats;
+    let found = seats::find_member(places, id);
     let Found::At(p) = found else {
         return refused(g, Refusal::UnknownMemberId);
     };
-    let places = g.seats;
     let seat = seats::seat_at(places, p);
     if e != seat.epoch {
         return refused(g, Refusal::FencedMemberEpoch);

@@ -1,6 +1,6 @@
 -- Each `return` is a row of the table: the tests that led there say that the rows before it do not apply. The last is the effect, at the place that was
 -- chosen. Assumes nothing.
-use mathlib.Core.Path.{_≡_, sym, _∙_}
+use mathlib.Core.Path.{_≡_, refl, sym, _∙_}
 use mathlib.Core.Bool.{true, false, _||_}
 use borrow.Author.Needs.{needs}
 use borrow.Author.Tests.{leb-false}
@@ -33,9 +33,9 @@ in-time c = sym (goes-back-is (c .before .before .before .before .args .g) _) �
 well-formed : (c : tie.Else2) → (malformed (request (c .before .before .before .before .before .before)) || lacking (request (c .before .before .before .before .before .before))) ≡ false
 well-formed c = sym (c .before .is-bad-join .ensures) ∙ c .if2 .left
 
-chosen : (c : tie.After-found) → Hit (hasPlace (group (c .before .before .before .before .before .before .before .before .before .before)) (request (c .before .before .before .before .before .before .before .before .before .before) .id)) (placeFor (group (c .before .before .before .before .before .before .before .before .before .before)) (request (c .before .before .before .before .before .before .before .before .before .before) .id)) (c .found .given .0 .0 .0)
+chosen : (c : tie.After-found) → Hit (hasPlace (group (c .before .before .before .before .before .before .before .before .before .before .before)) (request (c .before .before .before .before .before .before .before .before .before .before .before) .id)) (placeFor (group (c .before .before .before .before .before .before .before .before .before .before .before)) (request (c .before .before .before .before .before .before .before .before .before .before .before) .id)) (c .found .given .0 .0 .0)
 unfolding requestOf
-chosen c = hit (c .found .given .1) (c .before .before .choose-place .ensures .place-is)
+chosen c = hit (c .found .given .1) (c .before .before .choose-place .ensures (c .before .before .before .before .before .before .before .before .before .before .before .args .g) refl .place-is)
 
 -- ---- the returns
 
@@ -84,10 +84,10 @@ returns-3 : tie.Need-returns-3
 unfolding requestOf
 returns-3 c =
     λ l.
-    let s = c .before .before .before .before .before .before .before .before .before .before .before in
+    let s = c .before .before .before .before .before .before .before .before .before .before .before .before in
     let b = s .args .records .now in
-    let f = miss _ (c .before .enum-told .given .1) (c .before .before .before .choose-place .ensures .place-is) in
-    took-refused b l (c .refused3 .ensures) ∙ sym (row-full (group s) (request s) b l (in-time (c .before .before .before .before .before .before .before)) (well-formed (c .before .before .before .before .before)) f)
+    let f = miss _ (c .before .enum-told .given .1) (c .before .before .before .choose-place .ensures (s .args .g) refl .place-is) in
+    took-refused b l (c .refused3 .ensures) ∙ sym (row-full (group s) (request s) b l (in-time (c .before .before .before .before .before .before .before .before)) (well-formed (c .before .before .before .before .before .before)) f)
 
 at-end-requires : tie.Need-at-end-requires
 at-end-requires c κs = tt
@@ -98,11 +98,11 @@ refused-requires-4 c κs = tt
 returns-4 : tie.Need-returns-4
 returns-4 c =
     λ l.
-    let s = c .before .before .before .before .before .before .before .before .before .before .before .before .before .before in
+    let s = c .before .before .before .before .before .before .before .before .before .before .before .before .before .before .before in
     let b = s .args .records .now in
     let e = sym (at-end-is (s .args .g)) ∙ sym (c .before .before .at-end .ensures) ∙ c .before .if3 .taken in
     took-refused b l (c .refused4 .ensures)
-    ∙ sym (row-end (group s) (request s) b l (in-time (c .before .before .before .before .before .before .before .before .before .before)) (well-formed (c .before .before .before .before .before .before .before .before)) (chosen (c .before .before .before .before) .found) e)
+    ∙ sym (row-end (group s) (request s) b l (in-time (c .before .before .before .before .before .before .before .before .before .before .before)) (well-formed (c .before .before .before .before .before .before .before .before .before)) (chosen (c .before .before .before .before) .found) e)
 
 seat-at-requires : tie.Need-seat-at-requires
 seat-at-requires c κs = tt
@@ -113,8 +113,8 @@ unfolding requestOf
 join-at-requires c κs =
     let a = c .before .before .before .before .before .before .before .before .before .before .before .before .before .before .before .before .args in
     let s = c .before .seat-at in (
-      leb-false _ _ (sym (c .before .before .before .before .at-end .ensures) ∙ c .before .before .before .if3 .left),
-      λ k. found-same (a .g) (a .b .id) (known-place (view (a .g)) (a .b .id) (c .before .before .before .before .before .before .before .before .choose-place .ensures .known-is) (chosen (c .before .before .before .before .before .before)) k) (s .result) (s .ensures),
+      leb-false _ _ (sym (c .before .before .before .at-end .ensures) ∙ c .before .before .if3 .left),
+      λ k. found-same (a .g) (a .b .id) (known-place (view (a .g)) (a .b .id) (c .before .before .before .before .before .before .before .choose-place .ensures (a .g) refl .known-is) (chosen (c .before .before .before .before .before)) k) (s .result) (s .ensures),
     )
 
 same-length : tie.Need-same-length
@@ -126,10 +126,10 @@ returns-5 c =
     λ l.
     let s = c .before .before .before .before .before .before .before .before .before .before .before .before .before .before .before .before .before .before .before in
     let b = s .args .records .now in
-    let at = chosen (c .before .before .before .before .before .before .before .before .before) in
-    let e = sym (at-end-is (s .args .g)) ∙ sym (c .before .before .before .before .before .before .before .at-end .ensures) ∙ c .before .before .before .before .before .before .if3 .left in
+    let at = chosen (c .before .before .before .before .before .before .before .before) in
+    let e = sym (at-end-is (s .args .g)) ∙ sym (c .before .before .before .before .before .before .at-end .ensures) ∙ c .before .before .before .before .before .if3 .left in
     c .before .before .join-at .ensures (s .args .owned .now) l
-    ∙ joins-there (group s) (request s) b l (c .before .before .before .before .before .before .before .before .before .before .before .choose-place .ensures .known-is) (at .first)
+    ∙ joins-there (group s) (request s) b l (c .before .before .before .before .before .before .before .before .before .before .choose-place .ensures (s .args .g) refl .known-is) (at .first)
     ∙ sym (join-step (group s) (request s) b l (in-time (c .before .before .before .before .before .before .before .before .before .before .before .before .before .before .before)) (well-formed (c .before .before .before .before .before .before .before .before .before .before .before .before .before)) (at .found) e)
 
 pub join-spec : {M : Type 1} → statement M

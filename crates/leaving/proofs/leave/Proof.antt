@@ -5,7 +5,7 @@ use mathlib.Core.Path.{_≡_, sym, ap, _∙_}
 use borrow.Author.Needs.{needs}
 use Rattle.rules.specs.Effects.{leaveAt}
 use Rattle.rules.specs.Refusals.{goesBack, zeroId}
-use Rattle.group.proofs.Finding.{hit, miss}
+use Rattle.group.proofs.Finding.{hit, miss, known-in}
 use Rattle.group.proofs.Views.{goes-back-is}
 use Rattle.group.specs.View.{view}
 use Rattle.events.specs.Outcomes.{carried, requestOf}
@@ -72,21 +72,21 @@ returns-3 : tie.Need-returns-3
 unfolding requestOf
 returns-3 c =
     λ owned l.
-    let a = c .before .before .before .before .before .before .before .before .before .before .before .before .before .before .args in
-    let h = hit (c .before .before .before .before .before .found .given .1) (c .before .before .before .before .before .before .before .find-member .ensures) in
+    let a = c .before .before .before .before .before .before .before .before .before .before .before .before .before .before .before .args in
+    let h = hit (c .before .before .before .before .before .found .given .1) (known-in (a .g) _ _ (c .before .before .before .before .before .before .before .find-member .ensures)) in
     c .before .before .leave-at .ensures l
     ∙ ap (λ (p : ℕ). carried (view (a .g)) (leaveAt (view (a .g)) p (a .b .tick)) (a .records .now) l) (sym (h .first))
     ∙ sym (leave-step (view (a .g)) (requestOf (a .b) owned) (a .records .now) l
-    (forward (c .before .before .before .before .before .before .before .before .before .before)) (nonzero (c .before .before .before .before .before .before .before .before)) (h .found))
+    (forward (c .before .before .before .before .before .before .before .before .before .before .before)) (nonzero (c .before .before .before .before .before .before .before .before .before)) (h .found))
 
 returns-4 : tie.Need-returns-4
 unfolding requestOf
 returns-4 c =
     λ owned l.
-    let a = c .before .before .before .before .before .before .before .before .before .before .args in
+    let a = c .before .before .before .before .before .before .before .before .before .before .before .args in
     took-refused (a .records .now) l (c .refused3 .ensures)
     ∙ sym (row-unknown (view (a .g)) (requestOf (a .b) owned) (a .records .now) l
-    (forward (c .before .before .before .before .before .before)) (nonzero (c .before .before .before .before)) (miss _ (c .before .enum-told .given .1) (c .before .before .before .find-member .ensures)))
+    (forward (c .before .before .before .before .before .before .before)) (nonzero (c .before .before .before .before .before)) (miss _ (c .before .enum-told .given .1) (known-in (a .g) _ _ (c .before .before .before .find-member .ensures))))
 
 pub leave-spec : {M : Type 1} → statement M
 leave-spec =

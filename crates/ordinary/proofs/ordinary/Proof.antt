@@ -14,7 +14,7 @@ use Rattle.rules.specs.Refusals.{goesBack, malformed, notHeldBy}
 use Rattle.group.specs.View.{view, seated}
 use Rattle.group.specs.Searches.{Hit}
 use Rattle.group.proofs.Views.{goes-back-is}
-use Rattle.group.proofs.Finding.{hit, miss, found-same, found-member}
+use Rattle.group.proofs.Finding.{hit, miss, known-in, found-same, found-member}
 use Rattle.events.specs.Outcomes.{requestOf}
 use Rattle.events.proofs.Carrying.{took-refused}
 use Rattle.ordinary.proofs.OrdinaryRows.{row-clock, row-malformed, row-unknown, row-fenced, row-unheld, rows-passed}
@@ -34,16 +34,16 @@ in-time c = let a = c .before .before .before .before .before .args in sym (goes
 well-formed : (c : tie.Else2) → malformed (request (c .before .before .before .before .before .before .before)) ≡ false
 well-formed c = sym (c .before .is-malformed .ensures) ∙ c .if2 .left
 
-found : (c : tie.After-found) → let id = request (c .before .before .before .before .before .before .before .before .before .before .before) .id in Hit (known (group (c .before .before .before .before .before .before .before .before .before .before .before)) id) (placeOf (group (c .before .before .before .before .before .before .before .before .before .before .before)) id) (c .found .given .0 .0 .0)
+found : (c : tie.After-found) → let id = request (c .before .before .before .before .before .before .before .before .before .before .before .before) .id in Hit (known (group (c .before .before .before .before .before .before .before .before .before .before .before .before)) id) (placeOf (group (c .before .before .before .before .before .before .before .before .before .before .before .before)) id) (c .found .given .0 .0 .0)
 unfolding requestOf
-found c = hit (c .found .given .1) (c .before .before .find-member .ensures)
+found c = hit (c .found .given .1) (known-in (c .before .before .before .before .before .before .before .before .before .before .before .before .args .g) _ _ (c .before .before .find-member .ensures))
 
 -- the seat is that of the member with the ID
 own : (c : tie.After-seat-at) → memberAt (group (c .before .before .before .before .before .before .before .before .before .before .before .before .before .before)) (placeOf (group (c .before .before .before .before .before .before .before .before .before .before .before .before .before .before)) (request (c .before .before .before .before .before .before .before .before .before .before .before .before .before .before) .id)) ≡ seated (c .seat-at .result)
 unfolding requestOf
 own c =
     let a = c .before .before .before .before .before .before .before .before .before .before .before .before .before .before .args in
-    let h = found (c .before .before .before) in
+    let h = found (c .before .before) in
     ap (memberAt (group (c .before .before .before .before .before .before .before .before .before .before .before .before .before .before))) (h .first) ∙ found-member (a .g) (a .b .id) h (c .seat-at .result) (c .seat-at .ensures)
 
 current : (c : tie.Else3) → eqb (c .before .before .before .before .before .before .before .before .before .before .before .before .before .before .before .before .args .e) (memberAt (group (c .before .before .before .before .before .before .before .before .before .before .before .before .before .before .before .before)) (placeOf (group (c .before .before .before .before .before .before .before .before .before .before .before .before .before .before .before .before)) (request (c .before .before .before .before .before .before .before .before .before .before .before .before .before .before .before .before) .id)) .epoch) ≡ true
@@ -51,7 +51,7 @@ current c = ap (λ (m : G.Member). eqb (c .before .before .before .before .befor
 
 unheld : (c : tie.After-lists-unheld) → any (notHeldBy (group (c .before .before .before .before .before .before .before .before .before .before .before .before .before .before .before .before .before)) (placeOf (group (c .before .before .before .before .before .before .before .before .before .before .before .before .before .before .before .before .before)) (request (c .before .before .before .before .before .before .before .before .before .before .before .before .before .before .before .before .before) .id))) (default [] (request (c .before .before .before .before .before .before .before .before .before .before .before .before .before .before .before .before .before) .owned)) ≡ c .lists-unheld .result
 unfolding requestOf
-unheld c = ap (λ (q : ℕ). any (notHeldBy (group (c .before .before .before .before .before .before .before .before .before .before .before .before .before .before .before .before .before)) q) (default [] (request (c .before .before .before .before .before .before .before .before .before .before .before .before .before .before .before .before .before) .owned))) (found (c .before .before .before .before .before .before) .first) ∙ sym (c .lists-unheld .ensures)
+unheld c = ap (λ (q : ℕ). any (notHeldBy (group (c .before .before .before .before .before .before .before .before .before .before .before .before .before .before .before .before .before)) q) (default [] (request (c .before .before .before .before .before .before .before .before .before .before .before .before .before .before .before .before .before) .owned))) (found (c .before .before .before .before .before) .first) ∙ sym (c .lists-unheld .ensures)
 
 goes-back-requires : tie.Need-goes-back-requires
 goes-back-requires c κs = tt
@@ -95,10 +95,10 @@ refused-requires-3 c κs = tt
 returns-3 : tie.Need-returns-3
 unfolding requestOf
 returns-3 c =
-    let x = c .before .before .before .before .before .before .before .before .before .before .before .before in
+    let x = c .before .before .before .before .before .before .before .before .before .before .before .before .before in
     let a = x .args in
     took-refused (a .records .now) (a .list .now) (c .refused3 .ensures)
-    ∙ sym (row-unknown (group x) (request x) (a .e) (a .records .now) (a .list .now) (in-time (c .before .before .before .before .before .before .before)) (well-formed (c .before .before .before .before .before)) (miss _ (c .before .enum-told .given .1) (c .before .before .before .find-member .ensures)))
+    ∙ sym (row-unknown (group x) (request x) (a .e) (a .records .now) (a .list .now) (in-time (c .before .before .before .before .before .before .before .before)) (well-formed (c .before .before .before .before .before .before)) (miss _ (c .before .enum-told .given .1) (known-in (a .g) _ _ (c .before .before .before .find-member .ensures))))
 
 seat-at-requires : tie.Need-seat-at-requires
 seat-at-requires c κs = tt
@@ -111,7 +111,7 @@ returns-4 c =
     let x = c .before .before .before .before .before .before .before .before .before .before .before .before .before .before .before .before .before in
     let a = x .args in
     took-refused (a .records .now) (a .list .now) (c .refused4 .ensures)
-    ∙ sym (row-fenced (group x) (request x) (a .e) (a .records .now) (a .list .now) (in-time (c .before .before .before .before .before .before .before .before .before .before .before .before)) (well-formed (c .before .before .before .before .before .before .before .before .before .before)) (found (c .before .before .before .before .before .before) .found)
+    ∙ sym (row-fenced (group x) (request x) (a .e) (a .records .now) (a .list .now) (in-time (c .before .before .before .before .before .before .before .before .before .before .before .before)) (well-formed (c .before .before .before .before .before .before .before .before .before .before)) (found (c .before .before .before .before .before) .found)
     (ap (λ (m : G.Member). eqb (a .e) (m .epoch)) (own (c .before .before .before)) ∙ ne-eqb _ _ (c .before .if3 .taken)))
 
 lists-unheld-requires : tie.Need-lists-unheld-requires
@@ -125,14 +125,14 @@ returns-5 c =
     let x = c .before .before .before .before .before .before .before .before .before .before .before .before .before .before .before .before .before .before .before in
     let a = x .args in
     took-refused (a .records .now) (a .list .now) (c .refused5 .ensures)
-    ∙ sym (row-unheld (group x) (request x) (a .e) (a .records .now) (a .list .now) (in-time (c .before .before .before .before .before .before .before .before .before .before .before .before .before .before)) (well-formed (c .before .before .before .before .before .before .before .before .before .before .before .before)) (found (c .before .before .before .before .before .before .before .before) .found) (current (c .before .before .before))
+    ∙ sym (row-unheld (group x) (request x) (a .e) (a .records .now) (a .list .now) (in-time (c .before .before .before .before .before .before .before .before .before .before .before .before .before .before)) (well-formed (c .before .before .before .before .before .before .before .before .before .before .before .before)) (found (c .before .before .before .before .before .before .before) .found) (current (c .before .before .before))
     (unheld (c .before .before) ∙ c .before .if4 .taken))
 
 ordinary-at-requires : tie.Need-ordinary-at-requires
 unfolding requestOf
 ordinary-at-requires c κs =
     let a = c .before .before .before .before .before .before .before .before .before .before .before .before .before .before .before .before .before .before .before .before .args in
-    let h = found (c .before .before .before .before .before .before .before .before .before) in
+    let h = found (c .before .before .before .before .before .before .before .before) in
     let s = c .before .before .before .before .before .before .seat-at in
     (h .first, found-member (a .g) (a .b .id) h (s .result) (s .ensures), found-same (a .g) (a .b .id) h (s .result) (s .ensures), h .below)
 
@@ -147,7 +147,7 @@ returns-6 c =
     let x = c .before .before .before .before .before .before .before .before .before .before .before .before .before .before .before .before .before .before .before .before .before .before .before .before .before in
     let a = x .args in
     c .before .before .before .before .ordinary-at .ensures
-    ∙ sym (rows-passed (group x) (request x) (a .e) (a .records .now) (a .list .now) (in-time (c .before .before .before .before .before .before .before .before .before .before .before .before .before .before .before .before .before .before .before .before)) (well-formed (c .before .before .before .before .before .before .before .before .before .before .before .before .before .before .before .before .before .before)) (found (c .before .before .before .before .before .before .before .before .before .before .before .before .before .before) .found) (current (c .before .before .before .before .before .before .before .before .before))
+    ∙ sym (rows-passed (group x) (request x) (a .e) (a .records .now) (a .list .now) (in-time (c .before .before .before .before .before .before .before .before .before .before .before .before .before .before .before .before .before .before .before .before)) (well-formed (c .before .before .before .before .before .before .before .before .before .before .before .before .before .before .before .before .before .before)) (found (c .before .before .before .before .before .before .before .before .before .before .before .before .before) .found) (current (c .before .before .before .before .before .before .before .before .before))
     (unheld (c .before .before .before .before .before .before .before .before) ∙ c .before .before .before .before .before .before .before .if4 .left))
 
 pub ordinary-spec : {M : Type 1} → statement M

@@ -1,16 +1,81 @@
--- The members of the view are the views of the seats. Assumes nothing.
+-- The search goes on while no seat passed (`Sought`), so the first that passes, or none, is what the whole array has. Assumes nothing.
+use Prim.Native.Nat.{_-_, _≤_}
+use native.Mathlib.Omega.{arith}
+use mathlib.Core.Path.{sym, _∙_}
+use lib.ListN.{length}
 use borrow.Author.Needs.{needs}
-use Rattle.rules.specs.Group.{known, placeOf}
-use Rattle.group.specs.View.{view}
+use Rattle.rules.specs.Constants.{maxMembers}
+use Rattle.rules.specs.Group.{isMember}
+use Rattle.group.specs.View.{viewSeat}
+use Rattle.group.specs.Searches.{Finds}
+use Rattle.group.proofs.Searching.{Sought, sought-begin, sought-next, found-any, found-place, none-any}
+use Rattle.group.proofs.Views.{no-seat}
 use Rattle.group.proofs.seats.find_member.Statement.{statement}
 use Rattle.group.proofs.seats.find_member.Tie as tie
 
-find-id-requires : tie.Need-find-id-requires
-find-id-requires c κs = search needs
+abbrev Inv-loop : tie.InvT-loop
+Inv-loop id seats i₀ i = (i ≤ maxMembers) × Sought (isMember id) viewSeat seats i
 
-returns : tie.Need-returns
-unfolding known placeOf view
-returns c = c .find-id .ensures
+abbrev μ-loop : tie.MeasureT-loop
+μ-loop id seats i₀ i = maxMembers - i
+
+loop-holds : tie.Need-loop-holds Inv-loop μ-loop
+loop-holds c = (omega arith, sought-begin _ _ _)
+
+mul-s : tie.Need-mul-s Inv-loop μ-loop
+mul-s c = search needs
+
+array-copy-out-s : tie.Need-array-copy-out-s Inv-loop μ-loop
+array-copy-out-s c = search needs
+
+has-id-requires : tie.Need-has-id-requires Inv-loop μ-loop
+has-id-requires c κs = search needs
+
+cast-t12 : tie.Need-cast-t12 Inv-loop μ-loop
+cast-t12 c = search needs
+
+returns : tie.Need-returns Inv-loop μ-loop
+unfolding Finds
+returns c =
+    let l = c .before .before .before .before .loop in
+    let t = sym (c .before .has-id .ensures) ∙ c .if1 .taken in
+    record {
+      found = found-any _ _ (l .inv .1) no-seat (search needs) t;
+      first = found-place _ _ (l .inv .1) no-seat (search needs) t;
+      below = omega arith;
+    }
+
+add-i : tie.Need-add-i Inv-loop μ-loop
+add-i c = search needs
+
+loop-less : tie.Need-loop-less Inv-loop μ-loop
+loop-less c = search needs
+
+loop-again : tie.Need-loop-again Inv-loop μ-loop
+loop-again c =
+    let l = c .before .before .before .before .loop in
+    (omega arith, sought-next _ _ (l .inv .1) no-seat (search needs) (sym (c .before .has-id .ensures) ∙ c .if1 .left))
+
+returns-2 : tie.Need-returns-2 Inv-loop μ-loop
+unfolding Finds
+returns-2 c =
+    let l = c .before .loop in
+    let e : length (c .before .before .args .t1) ≤ l .i = search needs in
+    none-any _ _ (l .inv .1) e
 
 pub find-member-spec : {M : Type 1} → statement M
-find-member-spec = tie.close (tie.spec find-id-requires returns)
+find-member-spec =
+    tie.close
+    (tie.spec
+    Inv-loop
+    μ-loop
+    loop-holds
+    mul-s
+    array-copy-out-s
+    has-id-requires
+    cast-t12
+    returns
+    add-i
+    loop-less
+    loop-again
+    returns-2)
