@@ -80,6 +80,7 @@ pub fn fresh(tick: u32) -> Group
         revoked_at: 0,
         used: false,
     };
+    // 01: 'holder and target tables as [255; 1024]'.
     let tables = Tables {
         target: [NO_PLACE; SLOTS],
         holder: [NO_PLACE; SLOTS],

@@ -10,7 +10,7 @@ use mathlib.Core.Option.{Option, none, some}
 use lib.ListN.{length, getD}
 use lib.Seq.{getD-set-same, getD-set-other}
 use lib.Dec.{eqb}
-use borrow.Author.Tests.{eqb-true, eq-eqb, ne-eqb}
+use borrow.Author.Tests.{eq-eqb, ne-eqb}
 use Rattle.rules.specs.Basics.{any, default, indices}
 use Rattle.rules.specs.Constants.{noPlace}
 use Rattle.rules.specs.Group.{Group, Member, SlotState, assigned, freeSlot, fresh, known, memberAt, placeOf, revoking, setA, setP}
@@ -23,11 +23,11 @@ use Rattle.rules.specs.Rounds.{AllRegular, From, History, Installed, Reg
 use Rattle.rules.specs.declared.Answer.the-variants.{Done}
 use Rattle.rules.proofs.Lists.{and-true, indices-sound}
 use Rattle.rules.proofs.SingleHolder.{AllFalse, eq-cases, holderIn, id-lt, idIn, ids-same, known-id, member-placed, none-not, unknown-id}
-use Rattle.rules.proofs.Moves.{Moves, indices-ext, indices-none, moves-advanced, target-advanced, targetIn, waitingIn}
+use Rattle.rules.proofs.Moves.{Moves, indices-ext, indices-none, moves-advanced, not-assigned, target-advanced, targetIn, waitingIn}
 use Rattle.rules.proofs.Members.{MemberOk, Occupied}
 use Rattle.rules.proofs.InForce.{Aimed, aimed-same}
 use Rattle.rules.proofs.Reachable.{RInv, course, fresh-rinv, group-epoch-same, member-known, turn-rinv}
-use Rattle.rules.proofs.Stages.{Clean, Filled, Within, any-none-mem, clean-other, full-other, no-strays, no-wait, own-clean, own-full, own-within, within-other}
+use Rattle.rules.proofs.Stages.{Clean, Filled, Within, any-none-mem, clean-other, full-other, no-strays, no-wait, not-revoking-of, own-clean, own-full, own-within, within-other}
 
 -- ---- a regular heartbeat is accepted
 
@@ -179,18 +179,6 @@ is-assigned : (q : ℕ) (x : SlotState) → x .holder ≡ q → x .waiting ≡ f
 unfolding assigned
 is-assigned q x e w = rw (eq-eqb (x .holder) q e, w) refl
 
-isnt-assigned : (q : ℕ) (x : SlotState) → x .holder ≢ q → assigned q x ≡ false
-unfolding assigned
-isnt-assigned q x e = rw (ne-eqb (x .holder) q e) refl
-
-not-revoked : (q : ℕ) (x : SlotState) → (x .holder ≡ q → x .waiting ≡ false) → revoking q x ≡ false
-unfolding revoking
-not-revoked q x h = pick (eqb (x .holder) q) refl
-  where
-    pick : (c : Bool) → eqb (x .holder) q ≡ c → c && x .waiting ≡ false
-    pick true e = h (eqb-true (x .holder) q e)
-    pick false e = refl
-
 -- ---- the sets of a place whose A is its M
 
 done-sets : (q : ℕ) (ss : List SlotState) (ms : List (Option Member)) (entries : List ℕ) → length ss ≡ length entries → q ≢ noPlace → Occupied ms q → Clean q ss → Filled q ss
@@ -198,15 +186,15 @@ done-sets : (q : ℕ) (ss : List SlotState) (ms : List (Option Member)) (entries
     → (setA q ss ≡ indices (λ e. eqb e q) 0 entries) × (setP q ss ≡ [])
 unfolding setA setP holderIn waitingIn targetIn
 done-sets q ss ms entries long away o clean full at =
-    (indices-ext (assigned q) (λ e. eqb e q) freeSlot noPlace ss entries 0 long (λ k _. test k (at k)), indices-none (revoking q) freeSlot ss 0 (λ k _. not-revoked q (getD ss k freeSlot) (λ e. clean k e .0)))
+    (indices-ext (assigned q) (λ e. eqb e q) freeSlot noPlace ss entries 0 long (λ k _. test k (at k)), indices-none (revoking q) freeSlot ss 0 (λ k _. not-revoking-of q (getD ss k freeSlot) (λ e. clean k e .0)))
   where
     test : (k : ℕ) → (targetIn ss k ≡ getD entries k noPlace) ⊎ ((targetIn ss k ≡ noPlace) × (idIn ms (getD entries k noPlace) ≡ none)) → assigned q (getD ss k freeSlot) ≡ eqb (getD entries k noPlace) q
     test k (inl e) = eq-cases (getD entries k noPlace) q
         (λ f. let x = full k (e ∙ f) in is-assigned q (getD ss k freeSlot) x (clean k x .0) ∙ sym (eq-eqb (getD entries k noPlace) q f))
-        (λ f. isnt-assigned q (getD ss k freeSlot) (λ x. f (sym e ∙ clean k x .1)) ∙ sym (ne-eqb (getD entries k noPlace) q f))
+        (λ f. not-assigned q (getD ss k freeSlot) (λ x. f (sym e ∙ clean k x .1)) ∙ sym (ne-eqb (getD entries k noPlace) q f))
     test k (inr e) = eq-cases (getD entries k noPlace) q
         (λ f. absurd (none-not (ap (idIn ms) (sym f) ∙ e .1) (o .1)))
-        (λ f. isnt-assigned q (getD ss k freeSlot) (λ x. away (sym (clean k x .1) ∙ e .0)) ∙ sym (ne-eqb (getD entries k noPlace) q f))
+        (λ f. not-assigned q (getD ss k freeSlot) (λ x. away (sym (clean k x .1) ∙ e .0)) ∙ sym (ne-eqb (getD entries k noPlace) q f))
 
 -- ---- along the rounds
 
