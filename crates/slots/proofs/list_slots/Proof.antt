@@ -33,7 +33,7 @@ hit c =
     rw (select-next _ (l .s) slotCount (omega arith), l .inv .1 (omega arith)) at (l .inv .2)
 
 next-requires : tie.Need-next-requires Inv-loop μ-loop
-next-requires c κs = search needs
+next-requires c κs = omega arith
 
 loop-holds : tie.Need-loop-holds Inv-loop μ-loop
 unfolding slotsOf
@@ -52,10 +52,10 @@ add-at : tie.Need-add-at Inv-loop μ-loop
 add-at c = let s = hit c in omega (arith, to-go₁ s, s .fits)
 
 add-next : tie.Need-add-next Inv-loop μ-loop
-add-next c = search needs
+add-next c = omega arith
 
 next-requires-2 : tie.Need-next-requires-2 Inv-loop μ-loop
-next-requires-2 c κs = search needs
+next-requires-2 c κs = omega arith
 
 loop-less : tie.Need-loop-less Inv-loop μ-loop
 loop-less c = let n = c .next2 .ensures .0 in omega (arith, n)

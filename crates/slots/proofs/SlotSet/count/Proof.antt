@@ -37,7 +37,7 @@ rest c =
     omega (arith, l .inv .2)
 
 next-requires : tie.Need-next-requires Inv-loop μ-loop
-next-requires c κs = search needs
+next-requires c κs = omega arith
 
 loop-holds : tie.Need-loop-holds Inv-loop μ-loop
 unfolding slotsOf

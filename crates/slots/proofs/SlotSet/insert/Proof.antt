@@ -9,25 +9,25 @@ use Rattle.slots.proofs.SlotSet.insert.Statement.{statement}
 use Rattle.slots.proofs.SlotSet.insert.Tie as tie
 
 cast-i : tie.Need-cast-i
-cast-i c = search needs
+cast-i c = omega arith
 
 mul-r : tie.Need-mul-r
-mul-r c = search needs
+mul-r c = omega arith
 
 element-copy-out-r : tie.Need-element-copy-out-r
-element-copy-out-r c = search needs
+element-copy-out-r c = omega arith
 
 cast-r : tie.Need-cast-r
-cast-r c = search needs
+cast-r c = omega arith
 
 shl-r : tie.Need-shl-r
-shl-r c = search needs
+shl-r c = omega arith
 
 mul-r-2 : tie.Need-mul-r-2
-mul-r-2 c = search needs
+mul-r-2 c = omega arith
 
 element-write-r : tie.Need-element-write-r
-element-write-r c = search needs
+element-write-r c = omega arith
 
 returns : tie.Need-returns
 returns c s =

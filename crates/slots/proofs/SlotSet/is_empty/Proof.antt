@@ -7,7 +7,7 @@ use Rattle.slots.proofs.SlotSet.is_empty.Statement.{statement}
 use Rattle.slots.proofs.SlotSet.is_empty.Tie as tie
 
 lowest-requires : tie.Need-lowest-requires
-lowest-requires c κs = search needs
+lowest-requires c κs = tt
 
 returns : tie.Need-returns
 returns c =

@@ -7,10 +7,10 @@ use Rattle.slots.proofs.SlotSet.same_as.Statement.{statement}
 use Rattle.slots.proofs.SlotSet.same_as.Tie as tie
 
 is-subset-requires : tie.Need-is-subset-requires
-is-subset-requires c κs = search needs
+is-subset-requires c κs = tt
 
 is-subset-requires-2 : tie.Need-is-subset-requires-2
-is-subset-requires-2 c κs = search needs
+is-subset-requires-2 c κs = tt
 
 returns : tie.Need-returns
 returns c =
