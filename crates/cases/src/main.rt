@@ -97,19 +97,17 @@ fn show(event: &[u8], o: Outcome, records: &[u8], list: &[u16]) -> Group {
     g
 }
 
-// A heartbeat of the ID of sixteen times the byte `id`, with room for every answer.
-fn beat(
-    event: &[u8],
-    g: Group,
-    id: u8,
-    epoch: i32,
-    tick: u32,
-    given: bool,
-    owned: &[u16],
-) -> Group {
+// A heartbeat, with room for every answer.
+fn send(event: &[u8], g: Group, b: Request, owned: &[u16]) -> Group {
     let mut records = [0u8; 64];
     let mut list = [0u16; 8];
-    let b = Request {
+    let o = coordinator::heartbeat(g, b, owned, &mut records, &mut list);
+    show(event, o, &records, &list)
+}
+
+// An ordinary heartbeat of the ID of sixteen times the byte `id`.
+fn ordinary(id: u8, epoch: i32, tick: u32, given: bool) -> Request {
+    Request {
         id: [id; 16],
         epoch: epoch,
         tick: tick,
@@ -117,9 +115,7 @@ fn beat(
         has_subscription: false,
         subscription: 0,
         has_list: given,
-    };
-    let o = coordinator::heartbeat(g, b, owned, &mut records, &mut list);
-    show(event, o, &records, &list)
+    }
 }
 
 // A join that subscribes to topic 0.
@@ -135,16 +131,24 @@ fn joining(id: u8, tick: u32, timeout: i32) -> Request {
     }
 }
 
-fn join(event: &[u8], g: Group, id: u8, tick: u32, timeout: i32) -> Group {
-    let mut records = [0u8; 64];
-    let mut list = [0u16; 8];
-    let none = [0u16; 1];
-    let b = joining(id, tick, timeout);
-    let o = coordinator::heartbeat(g, b, &none[..0], &mut records, &mut list);
-    show(event, o, &records, &list)
+fn beat(
+    event: &[u8],
+    g: Group,
+    id: u8,
+    epoch: i32,
+    tick: u32,
+    given: bool,
+    owned: &[u16],
+) -> Group {
+    send(event, g, ordinary(id, epoch, tick, given), owned)
 }
 
-// The same without a line.
+fn join(event: &[u8], g: Group, id: u8, tick: u32, timeout: i32) -> Group {
+    let none = [0u16; 1];
+    send(event, g, joining(id, tick, timeout), &none[..0])
+}
+
+// A join without a line.
 fn joined(g: Group, id: u8, tick: u32) -> Group {
     let mut records = [0u8; 64];
     let mut list = [0u16; 8];
@@ -331,28 +335,21 @@ fn timeouts() {
     );
 }
 
-// P2's 29 bytes.
-fn buffers() {
+// P2's join, into a buffer of some length.
+fn join_into(event: &[u8], records: &mut [u8]) {
     let none = [0u16; 1];
     let mut list = [0u16; 8];
+    let b = joining(0xAA, 1000, 300);
+    let o = coordinator::heartbeat(coordinator::fresh(1000), b, &none[..0], records, &mut list);
+    let g = show(event, o, records, &list);
+}
+
+// It takes 29 bytes.
+fn buffers() {
     let mut exact = [0u8; 29];
-    let o = coordinator::heartbeat(
-        coordinator::fresh(1000),
-        joining(0xAA, 1000, 300),
-        &none[..0],
-        &mut exact,
-        &mut list,
-    );
-    let g = show(b"buffer exact, 29 bytes", o, &exact, &list);
+    join_into(b"buffer exact, 29 bytes", &mut exact);
     let mut short = [0u8; 28];
-    let p = coordinator::heartbeat(
-        coordinator::fresh(1000),
-        joining(0xAA, 1000, 300),
-        &none[..0],
-        &mut short,
-        &mut list,
-    );
-    let h = show(b"buffer one short, 28 bytes", p, &short, &list);
+    join_into(b"buffer one short, 28 bytes", &mut short);
 }
 
 fn main() {

@@ -9,7 +9,6 @@ use Rattle.rules.specs.Constants.{slotCount}
 use Rattle.slots.specs.Set.{has, select, slotsOf}
 use Rattle.numbers.proofs.Writing.{Writing, begin, to-go₁, same-len, put-one, ended}
 use Rattle.slots.proofs.Selecting.{select-next, select-skip}
-use borrow.Author.Needs.{needs}
 use Rattle.slots.proofs.list_slots.Statement.{statement}
 use Rattle.slots.proofs.list_slots.Tie as tie
 

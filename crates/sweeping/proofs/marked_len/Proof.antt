@@ -5,7 +5,6 @@ use native.Mathlib.Omega.{arith}
 use mathlib.Core.Path.{_≡_, ap}
 use mathlib.Core.List.{List}
 use lib.ListN.{length}
-use borrow.Author.Needs.{needs}
 use Rattle.rules.specs.Constants.{maxMembers, slotCount}
 use Rattle.rules.specs.Records.{allBytes}
 use Rattle.sweeping.specs.Marks.{marked, goneAt, markedRecords}
@@ -29,13 +28,13 @@ add-i : tie.Need-add-i Inv-loop μ-loop
 add-i c = omega arith
 
 array-read-if1 : tie.Need-array-read-if1 Inv-loop μ-loop
-array-read-if1 c = search needs
+array-read-if1 c = omega arith
 
 cast-t13 : tie.Need-cast-t13 Inv-loop μ-loop
-cast-t13 c = search needs
+cast-t13 c = omega arith
 
 array-read-gone-records-len : tie.Need-array-read-gone-records-len Inv-loop μ-loop
-array-read-gone-records-len c = search needs
+array-read-gone-records-len c = omega arith
 
 gone-records-len-requires : tie.Need-gone-records-len-requires Inv-loop μ-loop
 gone-records-len-requires c κs = tt

@@ -3,7 +3,6 @@ use Prim.Native.Nat.{_+_, _-_, _≤_}
 use native.Mathlib.Omega.{arith}
 use mathlib.Core.List.{[], _∷_, append-nil}
 use mathlib.Core.Path.{_∙_}
-use borrow.Author.Needs.{needs}
 use Rattle.rules.specs.Constants.{maxMembers}
 use Rattle.rules.specs.Records.{allBytes}
 use Rattle.numbers.proofs.Writing.{Writing, begin, cut, to-go₁, same-len, in-range, room, put-at, part-over, ended}
@@ -40,7 +39,7 @@ add-i : tie.Need-add-i Inv-loop μ-loop
 add-i c = omega arith
 
 array-read-if1 : tie.Need-array-read-if1 Inv-loop μ-loop
-array-read-if1 c = search needs
+array-read-if1 c = omega arith
 
 sub-put-gone-records : tie.Need-sub-put-gone-records Inv-loop μ-loop
 sub-put-gone-records c = omega (arith, in-range (coming c))
@@ -49,13 +48,13 @@ part-put-gone-records-start : tie.Need-part-put-gone-records-start Inv-loop μ-l
 part-put-gone-records-start c = omega (arith, in-range (coming c))
 
 part-put-gone-records-end : tie.Need-part-put-gone-records-end Inv-loop μ-loop
-part-put-gone-records-end c = search needs
+part-put-gone-records-end c = omega arith
 
 cast-t18 : tie.Need-cast-t18 Inv-loop μ-loop
-cast-t18 c = search needs
+cast-t18 c = omega arith
 
 array-read-put-gone-records : tie.Need-array-read-put-gone-records Inv-loop μ-loop
-array-read-put-gone-records c = search needs
+array-read-put-gone-records c = omega arith
 
 put-gone-records-requires : tie.Need-put-gone-records-requires Inv-loop μ-loop
 put-gone-records-requires c κs = room (coming (c .before))

@@ -4,7 +4,6 @@ use native.Mathlib.Omega.{arith}
 use mathlib.Core.List.{List, [], _∷_, _++_}
 use mathlib.Core.Path.{refl}
 use lib.ListN.{drop}
-use borrow.Author.Needs.{needs}
 use Rattle.rules.specs.Effects.{onlyIf}
 use Rattle.rules.specs.Records.{groupEpoch, allBytes}
 use Rattle.numbers.proofs.Writing.{Writing, Stage, begin, first, next, to-go, same-len, in-range, room, room₀, ended}
@@ -42,7 +41,7 @@ part-put-group-epoch-if-start : tie.Need-part-put-group-epoch-if-start
 part-put-group-epoch-if-start c = in-range (s₁ c .run)
 
 part-put-group-epoch-if-end : tie.Need-part-put-group-epoch-if-end
-part-put-group-epoch-if-end c = search needs
+part-put-group-epoch-if-end c = omega arith
 
 put-group-epoch-if-requires : tie.Need-put-group-epoch-if-requires
 put-group-epoch-if-requires c κs = room (s₁ (c .before) .run)

@@ -3,7 +3,6 @@ use Prim.Native.Nat.{_+_, _-_, _≤_}
 use native.Mathlib.Omega.{arith}
 use mathlib.Core.List.{foldl}
 use mathlib.Core.Path.{_≡_, refl, sym, ap, _∙_}
-use borrow.Author.Needs.{needs}
 use Rattle.rules.specs.Constants.{maxMembers}
 use Rattle.rules.specs.Effects.{remove}
 use Rattle.group.specs.View.{view}
@@ -27,10 +26,10 @@ add-i : tie.Need-add-i Inv-loop μ-loop
 add-i c = omega arith
 
 array-read-if1 : tie.Need-array-read-if1 Inv-loop μ-loop
-array-read-if1 c = search needs
+array-read-if1 c = omega arith
 
 cast-t11 : tie.Need-cast-t11 Inv-loop μ-loop
-cast-t11 c = search needs
+cast-t11 c = omega arith
 
 remove-member-requires : tie.Need-remove-member-requires Inv-loop μ-loop
 remove-member-requires c κs = tt

@@ -1,6 +1,5 @@
 -- The sum of the two parts.
 use native.Mathlib.Omega.{arith}
-use borrow.Author.Needs.{needs}
 use Rattle.rules.specs.Effects.{onlyIf}
 use Rattle.rules.specs.Records.{groupEpoch}
 use Rattle.sweeping.specs.Marks.{markedRecords}
@@ -15,7 +14,7 @@ group-epoch-len-if-requires : tie.Need-group-epoch-len-if-requires
 group-epoch-len-if-requires c κs = tt
 
 add-result : tie.Need-add-result
-add-result c = search needs
+add-result c = omega arith
 
 returns : tie.Need-returns
 returns c = let a = c .before .before .args in omega (arith, two-lengths (markedRecords (a .gone) (a .targets)) (onlyIf (a .raises) (groupEpoch (a .epoch))))

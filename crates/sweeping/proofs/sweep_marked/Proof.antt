@@ -1,7 +1,6 @@
 -- By the count: nobody goes, or some do.
 use native.Mathlib.Omega.{arith}
 use mathlib.Core.Path.{sym, _∙_}
-use borrow.Author.Needs.{needs}
 use Rattle.sweeping.specs.Marks.{marked}
 use Rattle.sweeping.proofs.SweepRows.{sweep-nobody}
 use Rattle.sweeping.proofs.sweep_marked.Statement.{statement}
@@ -24,7 +23,7 @@ sweep-some-requires : tie.Need-sweep-some-requires
 sweep-some-requires c κs = (c .before .before .count-marks .ensures, omega (arith, c .before .if1 .left))
 
 same-length : tie.Need-same-length
-same-length c = search needs
+same-length c = omega arith
 
 returns-2 : tie.Need-returns-2
 returns-2 c = c .before .before .sweep-some .ensures

@@ -66,7 +66,7 @@ swept-requires : tie.Need-swept-requires
 swept-requires c κs = tt
 
 same-length : tie.Need-same-length
-same-length c = search needs
+same-length c = omega arith
 
 returns-2 : tie.Need-returns-2
 unfolding sweepOf

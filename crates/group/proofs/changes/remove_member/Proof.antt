@@ -1,6 +1,5 @@
 -- A vacant seat is viewed as no member, and the tables are those that the rules leave.
 use mathlib.Core.Path.{_∙_}
-use borrow.Author.Needs.{needs}
 use Rattle.group.proofs.Views.{view-remove}
 use Rattle.group.proofs.changes.remove_member.Statement.{statement}
 use Rattle.group.proofs.changes.remove_member.Tie as tie

@@ -9,13 +9,13 @@ use Rattle.group.proofs.changes.with_seat.Statement.{statement}
 use Rattle.group.proofs.changes.with_seat.Tie as tie
 
 cast-i : tie.Need-cast-i
-cast-i c = search needs
+cast-i c = omega arith
 
 mul-seat : tie.Need-mul-seat
-mul-seat c = search needs
+mul-seat c = omega arith
 
 element-set-from-seat : tie.Need-element-set-from-seat
-element-set-from-seat c = search needs
+element-set-from-seat c = omega arith
 
 returns : tie.Need-returns
 returns c = let a = c .before .before .args in view-seat (a .g) (a .p .0) (a .epoch) (a .tick) (a .seat) (a .tables)

@@ -9,10 +9,10 @@ use Rattle.group.proofs.changes.with_topic.Statement.{statement}
 use Rattle.group.proofs.changes.with_topic.Tie as tie
 
 mul-t10 : tie.Need-mul-t10
-mul-t10 c = search needs
+mul-t10 c = omega arith
 
 element-set-from-next : tie.Need-element-set-from-next
-element-set-from-next c = search needs
+element-set-from-next c = omega arith
 
 returns : tie.Need-returns
 returns c = let a = c .before .args in view-topic (a .g) (a .number) (record { id = a .id; count = a .count }) (a .epoch)

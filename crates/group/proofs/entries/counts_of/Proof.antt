@@ -24,19 +24,19 @@ loop-holds c =
     (omega arith, fill-begin countOf (c .args .t1) _ (sym n))
 
 mul-t : tie.Need-mul-t Inv-loop μ-loop
-mul-t c = search needs
+mul-t c = omega arith
 
 array-copy-out-t : tie.Need-array-copy-out-t Inv-loop μ-loop
-array-copy-out-t c = search needs
+array-copy-out-t c = omega arith
 
 array-write-all : tie.Need-array-write-all Inv-loop μ-loop
-array-write-all c = search needs
+array-write-all c = omega arith
 
 add-i : tie.Need-add-i Inv-loop μ-loop
-add-i c = search needs
+add-i c = omega arith
 
 loop-less : tie.Need-loop-less Inv-loop μ-loop
-loop-less c = search needs
+loop-less c = omega arith
 
 loop-again : tie.Need-loop-again Inv-loop μ-loop
 loop-again c =

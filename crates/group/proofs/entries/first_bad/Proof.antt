@@ -1,18 +1,17 @@
 -- The two arrays are the lists that the group gives, over which the test is the rules' own (`first-is`). Assumes nothing.
 use mathlib.Core.Path.{_∙_}
-use borrow.Author.Needs.{needs}
 use Rattle.group.proofs.Installing.{first-is}
 use Rattle.group.proofs.entries.first_bad.Statement.{statement}
 use Rattle.group.proofs.entries.first_bad.Tie as tie
 
 counts-of-requires : tie.Need-counts-of-requires
-counts-of-requires c κs = search needs
+counts-of-requires c κs = tt
 
 subscriptions-of-requires : tie.Need-subscriptions-of-requires
-subscriptions-of-requires c κs = search needs
+subscriptions-of-requires c κs = tt
 
 first-bad-of-requires : tie.Need-first-bad-of-requires
-first-bad-of-requires c κs = search needs
+first-bad-of-requires c κs = tt
 
 returns : tie.Need-returns
 returns c =

@@ -19,10 +19,10 @@ loop-holds : tie.Need-loop-holds Inv-loop μ-loop
 loop-holds c = (omega arith, refl)
 
 shared-slice-read-entry : tie.Need-shared-slice-read-entry Inv-loop μ-loop
-shared-slice-read-entry c = search needs
+shared-slice-read-entry c = omega arith
 
 is-bad-entry-requires : tie.Need-is-bad-entry-requires Inv-loop μ-loop
-is-bad-entry-requires c κs = search needs
+is-bad-entry-requires c κs = tt
 
 returns : tie.Need-returns Inv-loop μ-loop
 returns c =
@@ -31,10 +31,10 @@ returns c =
     sym (first-found _ (l .slot) (a .entries .now) (search needs) (sym (c .before .is-bad-entry .ensures) ∙ c .if1 .taken)) ∙ l .inv .1
 
 add-slot : tie.Need-add-slot Inv-loop μ-loop
-add-slot c = search needs
+add-slot c = omega arith
 
 loop-less : tie.Need-loop-less Inv-loop μ-loop
-loop-less c = search needs
+loop-less c = omega arith
 
 loop-again : tie.Need-loop-again Inv-loop μ-loop
 loop-again c =

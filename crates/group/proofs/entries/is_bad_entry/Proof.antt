@@ -34,7 +34,7 @@ returns-3 c =
     rw (ne-eqb _ _ (c .before .before .if1 .left), z, none-subscribed, and-false)
 
 array-read-count : tie.Need-array-read-count
-array-read-count c = search needs
+array-read-count c = omega arith
 
 cast-count : tie.Need-cast-count
 cast-count c = search needs
@@ -44,16 +44,16 @@ unfolding entryBad
 returns-4 c = rw (ne-eqb _ _ (c .before .before .before .if1 .left), le-ltb _ _ (c .if4 .taken))
 
 mul-subscription : tie.Need-mul-subscription
-mul-subscription c = search needs
+mul-subscription c = omega arith
 
 array-read-subscription : tie.Need-array-read-subscription
-array-read-subscription c = search needs
+array-read-subscription c = omega arith
 
 cast-result : tie.Need-cast-result
-cast-result c = search needs
+cast-result c = omega arith
 
 shr-result : tie.Need-shr-result
-shr-result c = search needs
+shr-result c = omega arith
 
 returns-5 : tie.Need-returns-5
 unfolding entryBad includesTopic

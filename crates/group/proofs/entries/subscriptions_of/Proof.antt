@@ -24,25 +24,25 @@ loop-holds c =
     (omega arith, fill-begin subscriptionOf (c .args .t1) _ (sym n))
 
 mul-s : tie.Need-mul-s Inv-loop μ-loop
-mul-s c = search needs
+mul-s c = omega arith
 
 array-copy-out-s : tie.Need-array-copy-out-s Inv-loop μ-loop
-array-copy-out-s c = search needs
+array-copy-out-s c = omega arith
 
 subscription-of-requires : tie.Need-subscription-of-requires Inv-loop μ-loop
-subscription-of-requires c κs = search needs
+subscription-of-requires c κs = tt
 
 mul-all : tie.Need-mul-all Inv-loop μ-loop
-mul-all c = search needs
+mul-all c = omega arith
 
 array-write-all : tie.Need-array-write-all Inv-loop μ-loop
-array-write-all c = search needs
+array-write-all c = omega arith
 
 add-i : tie.Need-add-i Inv-loop μ-loop
-add-i c = search needs
+add-i c = omega arith
 
 loop-less : tie.Need-loop-less Inv-loop μ-loop
-loop-less c = search needs
+loop-less c = omega arith
 
 loop-again : tie.Need-loop-again Inv-loop μ-loop
 loop-again c =

@@ -1,10 +1,9 @@
 -- By the test. Assumes nothing.
-use borrow.Author.Needs.{needs}
 use Rattle.group.proofs.epochs.epoch_after.Statement.{statement}
 use Rattle.group.proofs.epochs.epoch_after.Tie as tie
 
 raised-epoch-requires : tie.Need-raised-epoch-requires
-raised-epoch-requires c κs = search needs
+raised-epoch-requires c κs = tt
 
 returns : tie.Need-returns
 returns c = rw (c .before .if1 .taken) (c .raised-epoch .ensures)

@@ -1,10 +1,9 @@
 -- By the test. Assumes nothing.
-use borrow.Author.Needs.{needs}
 use Rattle.group.proofs.epochs.past_end.Statement.{statement}
 use Rattle.group.proofs.epochs.past_end.Tie as tie
 
 at-end-requires : tie.Need-at-end-requires
-at-end-requires c κs = search needs
+at-end-requires c κs = tt
 
 returns : tie.Need-returns
 returns c = rw (c .before .if1 .taken) (c .at-end .ensures)

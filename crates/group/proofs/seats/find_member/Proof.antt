@@ -23,16 +23,16 @@ loop-holds : tie.Need-loop-holds Inv-loop μ-loop
 loop-holds c = (omega arith, sought-begin _ _ _)
 
 mul-s : tie.Need-mul-s Inv-loop μ-loop
-mul-s c = search needs
+mul-s c = omega arith
 
 array-copy-out-s : tie.Need-array-copy-out-s Inv-loop μ-loop
-array-copy-out-s c = search needs
+array-copy-out-s c = omega arith
 
 has-id-requires : tie.Need-has-id-requires Inv-loop μ-loop
-has-id-requires c κs = search needs
+has-id-requires c κs = tt
 
 cast-t12 : tie.Need-cast-t12 Inv-loop μ-loop
-cast-t12 c = search needs
+cast-t12 c = omega arith
 
 returns : tie.Need-returns Inv-loop μ-loop
 unfolding Finds
@@ -46,10 +46,10 @@ returns c =
     }
 
 add-i : tie.Need-add-i Inv-loop μ-loop
-add-i c = search needs
+add-i c = omega arith
 
 loop-less : tie.Need-loop-less Inv-loop μ-loop
-loop-less c = search needs
+loop-less c = omega arith
 
 loop-again : tie.Need-loop-again Inv-loop μ-loop
 loop-again c =

@@ -1,12 +1,11 @@
 -- Only a seat that is used has the ID of a member. Assumes nothing.
-use borrow.Author.Needs.{needs}
 use Rattle.rules.specs.Group.{isMember}
 use Rattle.group.specs.View.{viewSeat}
 use Rattle.group.proofs.seats.has_id.Statement.{statement}
 use Rattle.group.proofs.seats.has_id.Tie as tie
 
 same-id-requires : tie.Need-same-id-requires
-same-id-requires c κs = search needs
+same-id-requires c κs = tt
 
 returns : tie.Need-returns
 unfolding isMember viewSeat

@@ -2,7 +2,6 @@
 use mathlib.Core.Path.{sym, ap, _∙_}
 use lib.Dec.{leb}
 use borrow.Author.Tests.{le-leb, lt-leb}
-use borrow.Author.Needs.{needs}
 use Rattle.rules.specs.Constants.{sessionTimeout}
 use Rattle.rules.specs.Effects.{due}
 use Rattle.group.specs.View.{viewSeat}
@@ -10,7 +9,7 @@ use Rattle.group.proofs.seats.is_due.Statement.{statement}
 use Rattle.group.proofs.seats.is_due.Tie as tie
 
 elapsed-requires : tie.Need-elapsed-requires
-elapsed-requires c κs = search needs
+elapsed-requires c κs = tt
 
 returns : tie.Need-returns
 unfolding due viewSeat
@@ -19,7 +18,7 @@ returns c =
     rw (c .before .before .if1 .taken, q)
 
 elapsed-requires-2 : tie.Need-elapsed-requires-2
-elapsed-requires-2 c κs = search needs
+elapsed-requires-2 c κs = tt
 
 returns-2 : tie.Need-returns-2
 unfolding due viewSeat

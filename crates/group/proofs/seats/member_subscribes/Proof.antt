@@ -2,7 +2,6 @@
 -- the last topic it has none. Assumes nothing.
 use native.Mathlib.Omega.{arith}
 use mathlib.Core.Path.{sym}
-use borrow.Author.Needs.{needs}
 use Rattle.rules.specs.Group.{includesTopic, subscribes}
 use Rattle.group.specs.View.{viewSeat}
 use Rattle.group.proofs.Installing.{past-topics}
@@ -10,10 +9,10 @@ use Rattle.group.proofs.seats.member_subscribes.Statement.{statement}
 use Rattle.group.proofs.seats.member_subscribes.Tie as tie
 
 cast-result : tie.Need-cast-result
-cast-result c = search needs
+cast-result c = omega arith
 
 shr-result : tie.Need-shr-result
-shr-result c = search needs
+shr-result c = omega arith
 
 returns : tie.Need-returns
 unfolding subscribes includesTopic viewSeat

@@ -1,10 +1,9 @@
 -- One test of the elapsed time. Assumes nothing.
-use borrow.Author.Needs.{needs}
 use Rattle.group.proofs.ticks.goes_back.Statement.{statement}
 use Rattle.group.proofs.ticks.goes_back.Tie as tie
 
 elapsed-requires : tie.Need-elapsed-requires
-elapsed-requires c κs = search needs
+elapsed-requires c κs = tt
 
 returns : tie.Need-returns
 returns c = rw (c .elapsed .ensures)

@@ -14,7 +14,7 @@ unfolding allows viewTopic
 returns c = rw (eq-eqb _ _ (c .if1 .taken))
 
 same-id-requires : tie.Need-same-id-requires
-same-id-requires c κs = search needs
+same-id-requires c κs = tt
 
 returns-2 : tie.Need-returns-2
 unfolding allows viewTopic

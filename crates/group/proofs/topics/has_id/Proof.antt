@@ -1,6 +1,5 @@
 -- A count of 0 is no topic, and has no ID. Assumes nothing.
 use borrow.Author.Tests.{eq-eqb, ne-eqb}
-use borrow.Author.Needs.{needs}
 use Rattle.rules.specs.Refusals.{hasId}
 use Rattle.group.specs.View.{viewTopic}
 use Rattle.group.proofs.topics.has_id.Statement.{statement}
@@ -11,7 +10,7 @@ unfolding hasId viewTopic
 returns c = rw (eq-eqb _ _ (c .if1 .taken))
 
 same-id-requires : tie.Need-same-id-requires
-same-id-requires c κs = search needs
+same-id-requires c κs = tt
 
 returns-2 : tie.Need-returns-2
 unfolding hasId viewTopic

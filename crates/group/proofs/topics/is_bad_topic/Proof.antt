@@ -1,7 +1,6 @@
 -- At each return the tests that led there say that the earlier parts of `topicBad` are false and this one is true. Assumes nothing.
 use mathlib.Core.Path.{sym, _∙_}
 use borrow.Author.Tests.{eq-eqb, ne-eqb, lt-ltb, le-ltb, le-leb, lt-leb}
-use borrow.Author.Needs.{needs}
 use Rattle.rules.specs.Refusals.{topicBad}
 use Rattle.group.specs.View.{view}
 use Rattle.group.proofs.topics.is_bad_topic.Statement.{statement}
@@ -20,24 +19,24 @@ unfolding topicBad view
 returns-3 c = rw (lt-leb _ _ (c .before .before .if1 .left), ne-eqb _ _ (c .before .if2 .left), lt-ltb _ _ (c .if3 .taken))
 
 is-zero-requires : tie.Need-is-zero-requires
-is-zero-requires c κs = search needs
+is-zero-requires c κs = tt
 
 returns-4 : tie.Need-returns-4
 unfolding topicBad view
 returns-4 c = rw (lt-leb _ _ (c .before .before .before .before .if1 .left), ne-eqb _ _ (c .before .before .before .if2 .left), le-ltb _ _ (c .before .before .if3 .left), sym (c .before .is-zero .ensures) ∙ c .if4 .taken)
 
 other-has-id-requires : tie.Need-other-has-id-requires
-other-has-id-requires c κs = search needs
+other-has-id-requires c κs = tt
 
 returns-5 : tie.Need-returns-5
 unfolding topicBad view
 returns-5 c = rw (lt-leb _ _ (c .before .before .before .before .before .before .before .if1 .left), ne-eqb _ _ (c .before .before .before .before .before .before .if2 .left), le-ltb _ _ (c .before .before .before .before .before .if3 .left), sym (c .before .before .before .before .is-zero .ensures) ∙ c .before .before .before .if4 .left, sym (c .before .other-has-id .ensures) ∙ c .if5 .taken)
 
 topic-at-requires : tie.Need-topic-at-requires
-topic-at-requires c κs = search needs
+topic-at-requires c κs = tt
 
 allows-count-requires : tie.Need-allows-count-requires
-allows-count-requires c κs = search needs
+allows-count-requires c κs = tt
 
 returns-6 : tie.Need-returns-6
 unfolding topicBad view

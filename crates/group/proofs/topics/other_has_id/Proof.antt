@@ -18,14 +18,14 @@ array-set-from-others : tie.Need-array-set-from-others
 array-set-from-others c = search needs
 
 any-has-id-requires : tie.Need-any-has-id-requires
-any-has-id-requires c κs = search needs
+any-has-id-requires c κs = tt
 
 returns : tie.Need-returns
 unfolding viewTopic
 returns c = let a = c .before .before .args in c .any-has-id .ensures ∙ ap (any (hasId (a .id))) (map-set viewTopic (a .topics) (a .number) _)
 
 any-has-id-requires-2 : tie.Need-any-has-id-requires-2
-any-has-id-requires-2 c κs = search needs
+any-has-id-requires-2 c κs = tt
 
 returns-2 : tie.Need-returns-2
 returns-2 c =

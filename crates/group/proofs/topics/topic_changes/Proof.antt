@@ -1,16 +1,15 @@
 -- The topic of the number is found, and its count compared. Assumes nothing.
 use mathlib.Core.Path.{ap, _∙_}
-use borrow.Author.Needs.{needs}
 use Rattle.rules.specs.Refusals.{countChanges, topicChanges}
 use Rattle.group.specs.View.{view}
 use Rattle.group.proofs.topics.topic_changes.Statement.{statement}
 use Rattle.group.proofs.topics.topic_changes.Tie as tie
 
 topic-at-requires : tie.Need-topic-at-requires
-topic-at-requires c κs = search needs
+topic-at-requires c κs = tt
 
 count-changes-requires : tie.Need-count-changes-requires
-count-changes-requires c κs = search needs
+count-changes-requires c κs = tt
 
 returns : tie.Need-returns
 unfolding topicChanges view

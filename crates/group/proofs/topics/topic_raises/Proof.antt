@@ -1,15 +1,14 @@
 -- By the first test; the members of the view are the views of the seats. Assumes nothing.
-use borrow.Author.Needs.{needs}
 use Rattle.rules.specs.Refusals.{topicRaises}
 use Rattle.group.specs.View.{view}
 use Rattle.group.proofs.topics.topic_raises.Statement.{statement}
 use Rattle.group.proofs.topics.topic_raises.Tie as tie
 
 topic-changes-requires : tie.Need-topic-changes-requires
-topic-changes-requires c κs = search needs
+topic-changes-requires c κs = tt
 
 any-subscribes-requires : tie.Need-any-subscribes-requires
-any-subscribes-requires c κs = search needs
+any-subscribes-requires c κs = tt
 
 returns : tie.Need-returns
 unfolding topicRaises view

@@ -4,7 +4,6 @@ use mathlib.Core.List.{List}
 use Prim.Native.Nat.{ℕ}
 use native.Mathlib.Omega.{arith}
 use lib.ListN.{drop}
-use borrow.Author.Needs.{needs}
 use Rattle.rules.specs.Records.{allBytes}
 use Rattle.rules.specs.Effects.{goneRecords}
 use Rattle.numbers.proofs.Writing.{Writing, Stage, begin, first, next, to-go, in-range, same-len, room, room₀, ended}
@@ -44,7 +43,7 @@ part-put-no-target-if-start : tie.Need-part-put-no-target-if-start
 part-put-no-target-if-start c = in-range (s₁ c .run)
 
 part-put-no-target-if-end : tie.Need-part-put-no-target-if-end
-part-put-no-target-if-end c = search needs
+part-put-no-target-if-end c = omega arith
 
 put-no-target-if-requires : tie.Need-put-no-target-if-requires
 put-no-target-if-requires c κs = room (s₁ (c .before) .run)
@@ -59,7 +58,7 @@ part-put-member-gone-start : tie.Need-part-put-member-gone-start
 part-put-member-gone-start c = in-range (s₂ c .run)
 
 part-put-member-gone-end : tie.Need-part-put-member-gone-end
-part-put-member-gone-end c = search needs
+part-put-member-gone-end c = omega arith
 
 put-member-gone-requires : tie.Need-put-member-gone-requires
 put-member-gone-requires c κs = room (s₂ (c .before) .run)

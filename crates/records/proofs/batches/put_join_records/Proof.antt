@@ -4,7 +4,6 @@ use mathlib.Core.List.{List}
 use Prim.Native.Nat.{ℕ}
 use native.Mathlib.Omega.{arith}
 use lib.ListN.{drop}
-use borrow.Author.Needs.{needs}
 use Rattle.rules.specs.Records.{allBytes}
 use Rattle.rules.specs.Effects.{joinRecords}
 use Rattle.numbers.proofs.Writing.{Writing, Stage, begin, first, next, to-go, in-range, same-len, room, room₀, ended}
@@ -47,7 +46,7 @@ part-put-member-start : tie.Need-part-put-member-start
 part-put-member-start c = in-range (s₁ c .run)
 
 part-put-member-end : tie.Need-part-put-member-end
-part-put-member-end c = search needs
+part-put-member-end c = omega arith
 
 put-member-requires : tie.Need-put-member-requires
 put-member-requires c κs = room (s₁ (c .before) .run)
@@ -62,7 +61,7 @@ part-put-group-epoch-start : tie.Need-part-put-group-epoch-start
 part-put-group-epoch-start c = in-range (s₂ c .run)
 
 part-put-group-epoch-end : tie.Need-part-put-group-epoch-end
-part-put-group-epoch-end c = search needs
+part-put-group-epoch-end c = omega arith
 
 put-group-epoch-requires : tie.Need-put-group-epoch-requires
 put-group-epoch-requires c κs = room (s₂ (c .before) .run)
@@ -77,7 +76,7 @@ part-put-joined-start : tie.Need-part-put-joined-start
 part-put-joined-start c = in-range (s₃ c .run)
 
 part-put-joined-end : tie.Need-part-put-joined-end
-part-put-joined-end c = search needs
+part-put-joined-end c = omega arith
 
 put-joined-requires : tie.Need-put-joined-requires
 put-joined-requires c κs = room (s₃ (c .before) .run)

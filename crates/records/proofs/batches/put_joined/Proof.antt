@@ -5,7 +5,7 @@ use Rattle.records.proofs.batches.put_joined.Statement.{statement}
 use Rattle.records.proofs.batches.put_joined.Tie as tie
 
 empty-requires : tie.Need-empty-requires
-empty-requires c κs = search needs
+empty-requires c κs = tt
 
 put-current-requires : tie.Need-put-current-requires
 put-current-requires c κs = rw (slots-none (c .before .empty .result .words) (c .before .empty .ensures)) (c .before .before .before .pre)

@@ -4,7 +4,6 @@ use mathlib.Core.List.{List}
 use Prim.Native.Nat.{ℕ}
 use native.Mathlib.Omega.{arith}
 use lib.ListN.{drop}
-use borrow.Author.Needs.{needs}
 use Rattle.rules.specs.Records.{allBytes}
 use Rattle.rules.specs.Effects.{leaveRecords}
 use Rattle.numbers.proofs.Writing.{Writing, Stage, begin, first, next, to-go, in-range, same-len, room, room₀, ended}
@@ -41,7 +40,7 @@ part-put-group-epoch-if-start : tie.Need-part-put-group-epoch-if-start
 part-put-group-epoch-if-start c = in-range (s₁ c .run)
 
 part-put-group-epoch-if-end : tie.Need-part-put-group-epoch-if-end
-part-put-group-epoch-if-end c = search needs
+part-put-group-epoch-if-end c = omega arith
 
 put-group-epoch-if-requires : tie.Need-put-group-epoch-if-requires
 put-group-epoch-if-requires c κs = room (s₁ (c .before) .run)

@@ -4,7 +4,6 @@ use mathlib.Core.List.{List}
 use Prim.Native.Nat.{ℕ}
 use native.Mathlib.Omega.{arith}
 use lib.ListN.{drop}
-use borrow.Author.Needs.{needs}
 use Rattle.rules.specs.Records.{allBytes}
 use Rattle.slots.specs.Set.{slotsOf}
 use Rattle.records.specs.Stored.{ordinaryStored}
@@ -45,7 +44,7 @@ part-put-group-epoch-if-start : tie.Need-part-put-group-epoch-if-start
 part-put-group-epoch-if-start c = in-range (s₁ c .run)
 
 part-put-group-epoch-if-end : tie.Need-part-put-group-epoch-if-end
-part-put-group-epoch-if-end c = search needs
+part-put-group-epoch-if-end c = omega arith
 
 put-group-epoch-if-requires : tie.Need-put-group-epoch-if-requires
 put-group-epoch-if-requires c κs = room (s₁ (c .before) .run)
@@ -60,7 +59,7 @@ part-put-current-if-start : tie.Need-part-put-current-if-start
 part-put-current-if-start c = in-range (s₂ c .run)
 
 part-put-current-if-end : tie.Need-part-put-current-if-end
-part-put-current-if-end c = search needs
+part-put-current-if-end c = omega arith
 
 put-current-if-requires : tie.Need-put-current-if-requires
 put-current-if-requires c κs = room (s₂ (c .before) .run)

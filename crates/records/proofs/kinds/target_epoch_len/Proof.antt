@@ -1,15 +1,14 @@
 -- `records::kinds::target_epoch_len` meets its contract: the kind is one byte.
 use native.Mathlib.Omega.{arith}
-use borrow.Author.Needs.{needs}
 use Rattle.records.proofs.Parts.{target-epoch-length}
 use Rattle.records.proofs.kinds.target_epoch_len.Statement.{statement}
 use Rattle.records.proofs.kinds.target_epoch_len.Tie as tie
 
 number-len-requires : tie.Need-number-len-requires
-number-len-requires c κs = search needs
+number-len-requires c κs = tt
 
 add-result : tie.Need-add-result
-add-result c = search needs
+add-result c = omega arith
 
 returns : tie.Need-returns
 returns c = (omega (arith, target-epoch-length (c .before .args .epoch)), omega arith)

@@ -9,16 +9,16 @@ use Rattle.records.proofs.kinds.topic_len.Statement.{statement}
 use Rattle.records.proofs.kinds.topic_len.Tie as tie
 
 number-len-requires : tie.Need-number-len-requires
-number-len-requires c κs = search needs
+number-len-requires c κs = tt
 
 add-result : tie.Need-add-result
-add-result c = search needs
+add-result c = omega arith
 
 number-len-requires-2 : tie.Need-number-len-requires-2
-number-len-requires-2 c κs = search needs
+number-len-requires-2 c κs = tt
 
 add-result-2 : tie.Need-add-result-2
-add-result-2 c = search needs
+add-result-2 c = omega arith
 
 returns : tie.Need-returns
 returns c =

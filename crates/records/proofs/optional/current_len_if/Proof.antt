@@ -1,13 +1,12 @@
 -- `records::optional::current_len_if` meets its contract: if it is on, the length is the record's; if it is off, 0.
 use mathlib.Core.Path.{refl}
 use native.Mathlib.Omega.{arith}
-use borrow.Author.Needs.{needs}
 use Rattle.records.proofs.Lists.{only-on, only-off}
 use Rattle.records.proofs.optional.current_len_if.Statement.{statement}
 use Rattle.records.proofs.optional.current_len_if.Tie as tie
 
 current-len-requires : tie.Need-current-len-requires
-current-len-requires c κs = search needs
+current-len-requires c κs = tt
 
 returns : tie.Need-returns
 returns c = rw (c .before .if1 .taken, only-on) (c .current-len .ensures)

@@ -5,7 +5,7 @@ use Rattle.records.proofs.optional.put_no_target_if.Statement.{statemen
 use Rattle.records.proofs.optional.put_no_target_if.Tie as tie
 
 empty-requires : tie.Need-empty-requires
-empty-requires c κs = search needs
+empty-requires c κs = tt
 
 put-target-if-requires : tie.Need-put-target-if-requires
 put-target-if-requires c κs = rw (slots-none (c .before .empty .result .words) (c .before .empty .ensures)) (c .before .before .before .pre)

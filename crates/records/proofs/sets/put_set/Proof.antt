@@ -3,7 +3,6 @@ use mathlib.Core.Path.{refl, ap, _∙_}
 use mathlib.Core.List.{List, [], _∷_, _++_, append-nil}
 use Prim.Native.Nat.{ℕ}
 use native.Mathlib.Omega.{arith}
-use borrow.Author.Needs.{needs}
 use Rattle.rules.specs.Records.{number, differences, setBytes}
 use Rattle.numbers.proofs.Writing.{Writing, Stage, begin, first, next, to-go, in-range, same-len, room, room₀, ended}
 use Rattle.slots.specs.Set.{slotsOf}
@@ -29,7 +28,7 @@ abbrev s₂ : (c : tie.After-slice-known3) → (let k = c .before .before .befor
 s₂ c = next (s₁ (c .before .before .before .before)) (c .before .before .put-differences .ensures)
 
 count-requires : tie.Need-count-requires
-count-requires c κs = search needs
+count-requires c κs = tt
 
 put-number-requires : tie.Need-put-number-requires
 put-number-requires c κs = room₀ (s₀ c)
@@ -41,7 +40,7 @@ part-put-differences-start : tie.Need-part-put-differences-start
 part-put-differences-start c = in-range (s₁ c .run)
 
 part-put-differences-end : tie.Need-part-put-differences-end
-part-put-differences-end c = search needs
+part-put-differences-end c = omega arith
 
 put-differences-requires : tie.Need-put-differences-requires
 put-differences-requires c κs = room (s₁ (c .before) .run)

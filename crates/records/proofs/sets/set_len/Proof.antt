@@ -3,7 +3,6 @@ use mathlib.Core.Path.{_≡_}
 use Prim.Native.Nat.{_+_}
 use native.Mathlib.Omega.{arith}
 use lib.ListN.{length}
-use borrow.Author.Needs.{needs}
 use Rattle.rules.specs.Records.{number, differences, setBytes}
 use Rattle.slots.specs.Set.{slotsOf}
 use Rattle.records.proofs.Differences.{set-length}
@@ -11,16 +10,16 @@ use Rattle.records.proofs.sets.set_len.Statement.{statement}
 use Rattle.records.proofs.sets.set_len.Tie as tie
 
 count-requires : tie.Need-count-requires
-count-requires c κs = search needs
+count-requires c κs = tt
 
 number-len-requires : tie.Need-number-len-requires
-number-len-requires c κs = search needs
+number-len-requires c κs = tt
 
 differences-len-requires : tie.Need-differences-len-requires
-differences-len-requires c κs = search needs
+differences-len-requires c κs = tt
 
 add-result : tie.Need-add-result
-add-result c = search needs
+add-result c = omega arith
 
 returns : tie.Need-returns
 returns c =

@@ -6,7 +6,6 @@ use Prim.Native.Nat.{ℕ, _+_, _-_, _≤_, _<_}
 use native.Mathlib.Nat.{zero-add, add-zero}
 use native.Mathlib.Omega.{arith}
 use lib.ListN.{length}
-use borrow.Author.Needs.{needs}
 use Rattle.rules.specs.Constants.{slotCount}
 use Rattle.slots.specs.Set.{has, select, slotsOf}
 use Rattle.slots.proofs.Selecting.{select-next, select-skip, slots-le}

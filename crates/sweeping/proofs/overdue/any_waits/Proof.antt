@@ -5,7 +5,6 @@ use mathlib.Core.Bool.{false}
 use mathlib.Core.Path.{_≡_}
 use lib.ListN.{getD}
 use borrow.Author.Count.{below-more}
-use borrow.Author.Needs.{needs}
 use Rattle.rules.specs.Constants.{slotCount}
 use Rattle.rules.proofs.Lists.{or-false}
 use Rattle.sweeping.proofs.overdue.any_waits.Statement.{statement}
@@ -21,7 +20,7 @@ loop-holds : tie.Need-loop-holds Inv-loop μ-loop
 loop-holds c = (omega arith, λ z s h. absurd (omega arith))
 
 element-copy-out-some : tie.Need-element-copy-out-some Inv-loop μ-loop
-element-copy-out-some c = search needs
+element-copy-out-some c = omega arith
 
 add-i : tie.Need-add-i Inv-loop μ-loop
 add-i c = omega arith

@@ -6,7 +6,6 @@ use mathlib.Core.List.{map}
 use mathlib.Core.Option.{none}
 use mathlib.Core.Path.{_≡_, refl, sym, ap, _∙_}
 use lib.ListN.{length, getD, length-set}
-use borrow.Author.Needs.{needs}
 use Rattle.rules.specs.Constants.{maxMembers}
 use Rattle.rules.specs.Effects.{due}
 use Rattle.rules.specs.Group.{revoking}
@@ -27,19 +26,19 @@ loop-holds : tie.Need-loop-holds Inv-loop μ-loop
 loop-holds c = (omega arith, refl, λ p q. absurd (omega arith))
 
 mul-seat : tie.Need-mul-seat Inv-loop μ-loop
-mul-seat c = search needs
+mul-seat c = omega arith
 
 array-copy-out-seat : tie.Need-array-copy-out-seat Inv-loop μ-loop
-array-copy-out-seat c = search needs
+array-copy-out-seat c = omega arith
 
 array-read-is-due : tie.Need-array-read-is-due Inv-loop μ-loop
-array-read-is-due c = search needs
+array-read-is-due c = omega arith
 
 is-due-requires : tie.Need-is-due-requires Inv-loop μ-loop
 is-due-requires c κs = tt
 
 array-write-gone : tie.Need-array-write-gone Inv-loop μ-loop
-array-write-gone c = search needs
+array-write-gone c = omega arith
 
 add-i : tie.Need-add-i Inv-loop μ-loop
 add-i c = omega arith

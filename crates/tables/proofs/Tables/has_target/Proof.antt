@@ -14,10 +14,10 @@ set-length : (c : tie.After-gather) → length (c .gather .result .target .words
 set-length c = search needs
 
 gather-requires : tie.Need-gather-requires
-gather-requires c κs = search needs
+gather-requires c κs = tt
 
 is-empty-requires : tie.Need-is-empty-requires
-is-empty-requires c κs = search needs
+is-empty-requires c κs = tt
 
 returns : tie.Need-returns
 unfolding viewTables

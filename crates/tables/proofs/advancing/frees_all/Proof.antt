@@ -9,7 +9,7 @@ returns : tie.Need-returns
 returns c = search needs
 
 meets-requires : tie.Need-meets-requires
-meets-requires c κs = search needs
+meets-requires c κs = tt
 
 returns-2 : tie.Need-returns-2
 returns-2 c =

@@ -8,7 +8,7 @@ use Rattle.tables.proofs.advancing.holds.Statement.{statement}
 use Rattle.tables.proofs.advancing.holds.Tie as tie
 
 contains-requires : tie.Need-contains-requires
-contains-requires c κs = search needs
+contains-requires c κs = omega arith
 
 returns : tie.Need-returns
 returns c = search needs

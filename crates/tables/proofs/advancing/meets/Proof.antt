@@ -22,13 +22,13 @@ loop-holds : tie.Need-loop-holds Inv-loop μ-loop
 loop-holds c = (omega arith, refl)
 
 mul-holds : tie.Need-mul-holds Inv-loop μ-loop
-mul-holds c = search needs
+mul-holds c = omega arith
 
 shared-slice-read-holds : tie.Need-shared-slice-read-holds Inv-loop μ-loop
-shared-slice-read-holds c = search needs
+shared-slice-read-holds c = omega arith
 
 holds-requires : tie.Need-holds-requires Inv-loop μ-loop
-holds-requires c κs = search needs
+holds-requires c κs = tt
 
 returns : tie.Need-returns Inv-loop μ-loop
 returns c =
@@ -38,10 +38,10 @@ returns c =
     sym (l .inv .1 ∙ ap (any (has (a .set .words))) (drop-cons (a .list .now) (l .i) 0 (search needs)) ∙ rw t)
 
 add-i : tie.Need-add-i Inv-loop μ-loop
-add-i c = search needs
+add-i c = omega arith
 
 loop-less : tie.Need-loop-less Inv-loop μ-loop
-loop-less c = search needs
+loop-less c = omega arith
 
 loop-again : tie.Need-loop-again Inv-loop μ-loop
 loop-again c =

@@ -39,28 +39,28 @@ loop-holds c =
     )
 
 array-read-t16 : tie.Need-array-read-t16 Inv-loop μ-loop
-array-read-t16 c = search needs
+array-read-t16 c = omega arith
 
 array-read-t19 : tie.Need-array-read-t19 Inv-loop μ-loop
-array-read-t19 c = search needs
+array-read-t19 c = omega arith
 
 array-read-t13 : tie.Need-array-read-t13 Inv-loop μ-loop
-array-read-t13 c = search needs
+array-read-t13 c = omega arith
 
 change-one-requires : tie.Need-change-one-requires Inv-loop μ-loop
-change-one-requires c κs = search needs
+change-one-requires c κs = tt
 
 array-write-t : tie.Need-array-write-t Inv-loop μ-loop
-array-write-t c = search needs
+array-write-t c = omega arith
 
 array-write-h : tie.Need-array-write-h Inv-loop μ-loop
-array-write-h c = search needs
+array-write-h c = omega arith
 
 array-write-w : tie.Need-array-write-w Inv-loop μ-loop
-array-write-w c = search needs
+array-write-w c = omega arith
 
 add-next-near : tie.Need-add-next-near Inv-loop μ-loop
-add-next-near c = search needs
+add-next-near c = omega arith
 
 next-near-requires : tie.Need-next-near-requires Inv-loop μ-loop
 next-near-requires c κs = let l = c .before .before .before .before .loop in (simp length-set (l .inv .2), simp length-set (l .inv .3), omega arith)

@@ -8,13 +8,13 @@ enum-told : tie.Need-enum-told
 enum-told c = search needs
 
 vacate-one-requires : tie.Need-vacate-one-requires
-vacate-one-requires c κs = search needs
+vacate-one-requires c κs = tt
 
 enum-known-what : tie.Need-enum-known-what
 enum-known-what c = search needs
 
 move-one-requires : tie.Need-move-one-requires
-move-one-requires c κs = search needs
+move-one-requires c κs = tt
 
 returns : tie.Need-returns
 returns c = rw (c .before .enum-told .given .1) (c .vacate-one .ensures)

@@ -2,15 +2,14 @@
 use mathlib.Core.Path.{_≡_, refl, sym, ap, ap₂, _∙_}
 use Rattle.rules.specs.Effects.{revoked, claimed}
 use Rattle.tables.specs.Changes.{movedBy}
-use borrow.Author.Needs.{needs}
 use Rattle.tables.proofs.changing.move_one.Statement.{statement}
 use Rattle.tables.proofs.changing.move_one.Tie as tie
 
 free-one-requires : tie.Need-free-one-requires
-free-one-requires c κs = search needs
+free-one-requires c κs = tt
 
 revoke-one-requires : tie.Need-revoke-one-requires
-revoke-one-requires c κs = search needs
+revoke-one-requires c κs = tt
 
 returns : tie.Need-returns
 unfolding movedBy
@@ -19,7 +18,7 @@ returns c =
     rw (c .before .if1 .taken) (c .revoke-one .ensures ∙ ap (revoked (a .p)) (c .before .before .free-one .ensures))
 
 claim-one-requires : tie.Need-claim-one-requires
-claim-one-requires c κs = search needs
+claim-one-requires c κs = tt
 
 returns-2 : tie.Need-returns-2
 unfolding movedBy

@@ -1,10 +1,9 @@
 -- By the flag.
-use borrow.Author.Needs.{needs}
 use Rattle.tables.proofs.changing.moved.Statement.{statement}
 use Rattle.tables.proofs.changing.moved.Tie as tie
 
 change-tables-requires : tie.Need-change-tables-requires
-change-tables-requires c κs = search needs
+change-tables-requires c κs = tt
 
 returns : tie.Need-returns
 returns c = rw (c .before .if1 .taken) (c .change-tables .ensures)

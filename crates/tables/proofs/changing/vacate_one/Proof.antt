@@ -2,12 +2,11 @@
 use mathlib.Core.Path.{_≡_, refl, sym, ap, ap₂, _∙_}
 use borrow.Author.Tests.{eq-eqb, ne-eqb, not-true, not-false}
 use Rattle.rules.specs.Effects.{vacated}
-use borrow.Author.Needs.{needs}
 use Rattle.tables.proofs.changing.vacate_one.Statement.{statement}
 use Rattle.tables.proofs.changing.vacate_one.Tie as tie
 
 without-requires : tie.Need-without-requires
-without-requires c κs = search needs
+without-requires c κs = tt
 
 returns : tie.Need-returns
 unfolding vacated

@@ -8,7 +8,6 @@ use lib.ListN.{getD, length, length-set}
 use Rattle.tables.proofs.Filling.{Four, four-none, four-more, none-yet, filled}
 use Rattle.rules.specs.Group.{assigned, revoking, targeted}
 use Rattle.tables.specs.Places.{claimable}
-use borrow.Author.Needs.{needs}
 use Rattle.tables.proofs.gathering.gather_lists.Statement.{statement}
 use Rattle.tables.proofs.gathering.gather_lists.Tie as tie
 
@@ -21,7 +20,7 @@ abbrev μ-loop : tie.MeasureT-loop
 μ-loop target holder waiting p assigned₀ revoking₀ targets₀ claimable₀ s₀ assigned revoking targets claimable s = slotCount - s
 
 next-near-requires : tie.Need-next-near-requires Inv-loop μ-loop
-next-near-requires c κs = search needs
+next-near-requires c κs = omega arith
 
 loop-holds : tie.Need-loop-holds Inv-loop μ-loop
 loop-holds c =
@@ -36,88 +35,88 @@ loop-holds c =
     )
 
 element-copy-out-h : tie.Need-element-copy-out-h Inv-loop μ-loop
-element-copy-out-h c = search needs
+element-copy-out-h c = omega arith
 
 element-copy-out-w : tie.Need-element-copy-out-w Inv-loop μ-loop
-element-copy-out-w c = search needs
+element-copy-out-w c = omega arith
 
 element-copy-out-t : tie.Need-element-copy-out-t Inv-loop μ-loop
-element-copy-out-t c = search needs
+element-copy-out-t c = omega arith
 
 mul-mark : tie.Need-mul-mark Inv-loop μ-loop
-mul-mark c = search needs
+mul-mark c = omega arith
 
 array-read-mark : tie.Need-array-read-mark Inv-loop μ-loop
-array-read-mark c = search needs
+array-read-mark c = omega arith
 
 both-requires : tie.Need-both-requires Inv-loop μ-loop
-both-requires c κs = search needs
+both-requires c κs = tt
 
 mark-requires : tie.Need-mark-requires Inv-loop μ-loop
-mark-requires c κs = search needs
+mark-requires c κs = omega arith
 
 mul-assigned : tie.Need-mul-assigned Inv-loop μ-loop
-mul-assigned c = search needs
+mul-assigned c = omega arith
 
 array-write-assigned : tie.Need-array-write-assigned Inv-loop μ-loop
-array-write-assigned c = search needs
+array-write-assigned c = omega arith
 
 mul-mark-2 : tie.Need-mul-mark-2 Inv-loop μ-loop
-mul-mark-2 c = search needs
+mul-mark-2 c = omega arith
 
 array-read-mark-2 : tie.Need-array-read-mark-2 Inv-loop μ-loop
-array-read-mark-2 c = search needs
+array-read-mark-2 c = omega arith
 
 both-requires-2 : tie.Need-both-requires-2 Inv-loop μ-loop
-both-requires-2 c κs = search needs
+both-requires-2 c κs = tt
 
 mark-requires-2 : tie.Need-mark-requires-2 Inv-loop μ-loop
-mark-requires-2 c κs = search needs
+mark-requires-2 c κs = omega arith
 
 mul-revoking : tie.Need-mul-revoking Inv-loop μ-loop
-mul-revoking c = search needs
+mul-revoking c = omega arith
 
 array-write-revoking : tie.Need-array-write-revoking Inv-loop μ-loop
-array-write-revoking c = search needs
+array-write-revoking c = omega arith
 
 mul-mark-3 : tie.Need-mul-mark-3 Inv-loop μ-loop
-mul-mark-3 c = search needs
+mul-mark-3 c = omega arith
 
 array-read-mark-3 : tie.Need-array-read-mark-3 Inv-loop μ-loop
-array-read-mark-3 c = search needs
+array-read-mark-3 c = omega arith
 
 mark-requires-3 : tie.Need-mark-requires-3 Inv-loop μ-loop
-mark-requires-3 c κs = search needs
+mark-requires-3 c κs = omega arith
 
 mul-targets : tie.Need-mul-targets Inv-loop μ-loop
-mul-targets c = search needs
+mul-targets c = omega arith
 
 array-write-targets : tie.Need-array-write-targets Inv-loop μ-loop
-array-write-targets c = search needs
+array-write-targets c = omega arith
 
 mul-mark-4 : tie.Need-mul-mark-4 Inv-loop μ-loop
-mul-mark-4 c = search needs
+mul-mark-4 c = omega arith
 
 array-read-mark-4 : tie.Need-array-read-mark-4 Inv-loop μ-loop
-array-read-mark-4 c = search needs
+array-read-mark-4 c = omega arith
 
 both-requires-3 : tie.Need-both-requires-3 Inv-loop μ-loop
-both-requires-3 c κs = search needs
+both-requires-3 c κs = tt
 
 mark-requires-4 : tie.Need-mark-requires-4 Inv-loop μ-loop
-mark-requires-4 c κs = search needs
+mark-requires-4 c κs = omega arith
 
 mul-claimable : tie.Need-mul-claimable Inv-loop μ-loop
-mul-claimable c = search needs
+mul-claimable c = omega arith
 
 array-write-claimable : tie.Need-array-write-claimable Inv-loop μ-loop
-array-write-claimable c = search needs
+array-write-claimable c = omega arith
 
 add-next-near : tie.Need-add-next-near Inv-loop μ-loop
-add-next-near c = search needs
+add-next-near c = omega arith
 
 next-near-requires-2 : tie.Need-next-near-requires-2 Inv-loop μ-loop
-next-near-requires-2 c κs = search needs
+next-near-requires-2 c κs = omega arith
 
 loop-less : tie.Need-loop-less Inv-loop μ-loop
 loop-less c = let n = c .next-near2 .ensures .0 in omega (arith, n)

@@ -9,7 +9,6 @@ use lib.Dec.{eqb}
 use Rattle.tables.specs.Places.{near, NoneNear}
 use Rattle.tables.proofs.Nearness.{none-more}
 use Rattle.slots.proofs.Next.{none-join}
-use borrow.Author.Needs.{needs}
 use Rattle.tables.proofs.searching.next_near.Statement.{statement}
 use Rattle.tables.proofs.searching.next_near.Tie as tie
 
@@ -20,25 +19,25 @@ abbrev μ-loop : tie.MeasureT-loop
 μ-loop target holder p from i₀ i = slotCount - i
 
 skip-far-requires : tie.Need-skip-far-requires Inv-loop μ-loop
-skip-far-requires c κs = search needs
+skip-far-requires c κs = omega arith
 
 loop-holds : tie.Need-loop-holds Inv-loop μ-loop
 loop-holds c = c .skip-far .ensures
 
 element-copy-out-near-mark : tie.Need-element-copy-out-near-mark Inv-loop μ-loop
-element-copy-out-near-mark c = search needs
+element-copy-out-near-mark c = omega arith
 
 element-copy-out-near-mark-2 : tie.Need-element-copy-out-near-mark-2 Inv-loop μ-loop
-element-copy-out-near-mark-2 c = search needs
+element-copy-out-near-mark-2 c = omega arith
 
 near-mark-requires : tie.Need-near-mark-requires Inv-loop μ-loop
-near-mark-requires c κs = search needs
+near-mark-requires c κs = tt
 
 returns : tie.Need-returns Inv-loop μ-loop
 returns c = c .before .before .before .before .before .loop .inv
 
 add-i : tie.Need-add-i Inv-loop μ-loop
-add-i c = search needs
+add-i c = omega arith
 
 loop-less : tie.Need-loop-less Inv-loop μ-loop
 loop-less c = omega arith

@@ -8,7 +8,6 @@ use lib.ListN.{getD}
 use lib.Dec.{eqb}
 use Rattle.tables.specs.Places.{near, NoneNear}
 use Rattle.tables.proofs.Nearness.{none-more, or-nothing}
-use borrow.Author.Needs.{needs}
 use Rattle.tables.proofs.searching.none_near.Statement.{statement}
 use Rattle.tables.proofs.searching.none_near.Tie as tie
 
@@ -22,19 +21,19 @@ loop-holds : tie.Need-loop-holds Inv-loop μ-loop
 loop-holds c = (omega arith, λ z s p q. absurd (omega arith))
 
 add-k : tie.Need-add-k Inv-loop μ-loop
-add-k c = search needs
+add-k c = omega arith
 
 element-copy-out-near-mark : tie.Need-element-copy-out-near-mark Inv-loop μ-loop
-element-copy-out-near-mark c = search needs
+element-copy-out-near-mark c = omega arith
 
 element-copy-out-near-mark-2 : tie.Need-element-copy-out-near-mark-2 Inv-loop μ-loop
-element-copy-out-near-mark-2 c = search needs
+element-copy-out-near-mark-2 c = omega arith
 
 near-mark-requires : tie.Need-near-mark-requires Inv-loop μ-loop
-near-mark-requires c κs = search needs
+near-mark-requires c κs = tt
 
 add-i : tie.Need-add-i Inv-loop μ-loop
-add-i c = search needs
+add-i c = omega arith
 
 loop-less : tie.Need-loop-less Inv-loop μ-loop
 loop-less c = omega arith

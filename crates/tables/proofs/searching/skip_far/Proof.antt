@@ -9,7 +9,6 @@ use lib.Dec.{eqb}
 use Rattle.tables.specs.Places.{near, NoneNear}
 use Rattle.tables.proofs.Nearness.{none-more}
 use Rattle.slots.proofs.Next.{none-join}
-use borrow.Author.Needs.{needs}
 use Rattle.tables.proofs.searching.skip_far.Statement.{statement}
 use Rattle.tables.proofs.searching.skip_far.Tie as tie
 
@@ -23,10 +22,10 @@ loop-holds : tie.Need-loop-holds Inv-loop μ-loop
 loop-holds c = (omega arith, omega arith, λ s p q. absurd (omega arith))
 
 none-near-requires : tie.Need-none-near-requires Inv-loop μ-loop
-none-near-requires c κs = search needs
+none-near-requires c κs = omega arith
 
 add-i : tie.Need-add-i Inv-loop μ-loop
-add-i c = search needs
+add-i c = omega arith
 
 loop-less : tie.Need-loop-less Inv-loop μ-loop
 loop-less c = omega arith

@@ -29,13 +29,13 @@ loop-holds : tie.Need-loop-holds Inv-loop μ-loop
 loop-holds c = (omega arith, refl)
 
 mul-holder-at : tie.Need-mul-holder-at Inv-loop μ-loop
-mul-holder-at c = search needs
+mul-holder-at c = omega arith
 
 shared-slice-read-holder-at : tie.Need-shared-slice-read-holder-at Inv-loop μ-loop
-shared-slice-read-holder-at c = search needs
+shared-slice-read-holder-at c = omega arith
 
 holder-at-requires : tie.Need-holder-at-requires Inv-loop μ-loop
-holder-at-requires c κs = search needs
+holder-at-requires c κs = omega arith
 
 returns : tie.Need-returns Inv-loop μ-loop
 returns c =
@@ -46,10 +46,10 @@ returns c =
     (a .holder .now) (a .p)) (drop (suc (l .i)) (a .list .now))) t)
 
 add-i : tie.Need-add-i Inv-loop μ-loop
-add-i c = search needs
+add-i c = omega arith
 
 loop-less : tie.Need-loop-less Inv-loop μ-loop
-loop-less c = search needs
+loop-less c = omega arith
 
 loop-again : tie.Need-loop-again Inv-loop μ-loop
 loop-again c =

@@ -4,12 +4,11 @@ use native.Mathlib.Omega.{arith}
 use lib.ListN.{length, getD, List·getD-eq-default}
 use Rattle.rules.specs.Constants.{noPlace}
 use Rattle.tables.proofs.Viewing.{getD-any}
-use borrow.Author.Needs.{needs}
 use Rattle.tables.proofs.testing.holder_at.Statement.{statement}
 use Rattle.tables.proofs.testing.holder_at.Tie as tie
 
 element-copy-out-result : tie.Need-element-copy-out-result
-element-copy-out-result c = search needs
+element-copy-out-result c = omega arith
 
 returns : tie.Need-returns
 returns c = let a = c .before .before .args in getD-any (a .holder .now) (a .s) 0 noPlace (omega arith)

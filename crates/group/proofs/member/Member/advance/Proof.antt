@@ -1,10 +1,9 @@
 -- The epoch is what `larger` returns, and each other field is as the code sets it. Assumes nothing.
-use borrow.Author.Needs.{needs}
 use Rattle.group.proofs.member.Member.advance.Statement.{statement}
 use Rattle.group.proofs.member.Member.advance.Tie as tie
 
 larger-requires : tie.Need-larger-requires
-larger-requires c κs = search needs
+larger-requires c κs = tt
 
 returns : tie.Need-returns
 returns c = rw (c .larger .ensures)

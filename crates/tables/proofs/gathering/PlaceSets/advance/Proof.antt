@@ -19,13 +19,13 @@ after-length : (c : tie.After-union2) → length (c .union2 .result .words) ≡ 
 after-length c = search needs
 
 is-empty-requires : tie.Need-is-empty-requires
-is-empty-requires c κs = search needs
+is-empty-requires c κs = tt
 
 frees-all-requires : tie.Need-frees-all-requires
-frees-all-requires c κs = search needs
+frees-all-requires c κs = tt
 
 both-requires : tie.Need-both-requires
-both-requires c κs = search needs
+both-requires c κs = tt
 
 returns : tie.Need-returns
 returns c = λ p vs lt len g.
@@ -39,31 +39,31 @@ returns c = λ p vs lt len g.
     (c .before .before .frees-all .ensures) (sym (c .before .both .ensures) ∙ c .if1 .taken)
 
 difference-requires : tie.Need-difference-requires
-difference-requires c κs = search needs
+difference-requires c κs = tt
 
 is-empty-requires-2 : tie.Need-is-empty-requires-2
-is-empty-requires-2 c κs = search needs
+is-empty-requires-2 c κs = tt
 
 difference-requires-2 : tie.Need-difference-requires-2
-difference-requires-2 c κs = search needs
+difference-requires-2 c κs = tt
 
 difference-requires-3 : tie.Need-difference-requires-3
-difference-requires-3 c κs = search needs
+difference-requires-3 c κs = tt
 
 union-requires : tie.Need-union-requires
-union-requires c κs = search needs
+union-requires c κs = tt
 
 union-requires-2 : tie.Need-union-requires-2
-union-requires-2 c κs = search needs
+union-requires-2 c κs = tt
 
 empty-requires : tie.Need-empty-requires
-empty-requires c κs = search needs
+empty-requires c κs = tt
 
 is-empty-requires-3 : tie.Need-is-empty-requires-3
-is-empty-requires-3 c κs = search needs
+is-empty-requires-3 c κs = tt
 
 either-requires : tie.Need-either-requires
-either-requires c κs = search needs
+either-requires c κs = tt
 
 returns-2 : tie.Need-returns-2
 returns-2 c = λ p vs lt len g.
@@ -95,7 +95,7 @@ returns-2 c = λ p vs lt len g.
     (after-length (c .before .before .before)) (c .before .is-empty3 .ensures) (c .either .ensures)
 
 difference-requires-4 : tie.Need-difference-requires-4
-difference-requires-4 c κs = search needs
+difference-requires-4 c κs = tt
 
 returns-3 : tie.Need-returns-3
 returns-3 c = λ p vs lt len g.
