@@ -78,3 +78,7 @@ bit-not (suc k) w (suc i) h l =
     let h2 : w < 2 ^ k * 2 = rw pow-suc at h in
     let e : ((2 ^ suc k - 1) - w) / 2 ≡ (2 ^ k - 1) - w / 2 = rw pow-suc (omega arith) in
     bit-suc ((2 ^ suc k - 1) - w) i ∙ ap (λ (n : ℕ). bit n i) e ∙ bit-not k (w / 2) i (omega arith) (omega arith) ∙ ap not (sym (bit-suc w i))
+
+-- a word without the bits of a machine word
+pub bit-without : (a b i : ℕ) → b < 2 ^ 64 → i < 64 → bit (bitAnd a ((2 ^ 64 - 1) - b)) i ≡ (bit a i && not (bit b i))
+bit-without a b i h l = bit-and a ((2 ^ 64 - 1) - b) i ∙ ap (λ (y : Bool). bit a i && y) (bit-not 64 b i h l)

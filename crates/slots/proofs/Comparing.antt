@@ -1,62 +1,33 @@
--- Whether two sets have the same rising list. A slot of one that the other has not makes the lists differ at its place (`differ`); two sets of which each
--- is part of the other have one list.
-use Prim.Native.Nat.{ℕ, zero, suc, _+_, _≤_, _<_}
-use native.Mathlib.Omega.{arith}
-use native.Mathlib.Decide.{ℕ-discrete}
+-- Whether two sets have the same rising list. A slot of one that the other has not makes the lists differ; two sets of which each is part of the other
+-- have one list.
+use Prim.Native.Nat.{ℕ}
 use mathlib.Core.Path.{_≡_, refl, sym, ap, _∙_}
-use mathlib.Core.Bool.{Bool, true, false, _&&_, and-false, true≢false}
-use mathlib.Core.List.{List, _∷_}
+use mathlib.Core.Bool.{Bool, true, false, true≢false}
+use mathlib.Core.List.{List}
 use lib.Dec.{eqb}
 use lib.ListN.{length}
-use borrow.Author.Tests.{ne-eqb}
-use Rattle.rules.specs.Basics.{same}
-use Rattle.slots.specs.Set.{has, keep, select, slotsOf, TellsSubset}
-use Rattle.rules.proofs.Lists.{same-refl}
+use Rattle.rules.specs.Basics.{any, same}
+use Rattle.rules.proofs.Lists.{same-refl, same-eq}
+use Rattle.slots.specs.Set.{has, slotsOf, TellsSubset}
 use Rattle.slots.proofs.Words.{in-range}
-use Rattle.slots.proofs.Selecting.{slots-are}
+use Rattle.slots.proofs.Selecting.{slots-are, slots-have}
 
-ahead : (g : ℕ → Bool) (n b x : ℕ) (xs : List ℕ) → x < b → same (x ∷ xs) (select g b n) ≡ false
-unfolding select
-ahead g zero b x xs h = refl
-ahead g (suc n) b x xs h = go (g b) (ahead g n (suc b) x xs (omega arith))
+differ : (x y : List ℕ) → (x ≡ y → ⊥) → same x y ≡ false
+differ x y h = go (same x y) refl
   where
-    go : (y : Bool) → same (x ∷ xs) (select g (suc b) n) ≡ false → same (x ∷ xs) (keep y b (select g (suc b) n)) ≡ false
-    go true ih = rw (ne-eqb x b (λ e. omega arith))
-    go false ih = ih
-
-behind : (g : ℕ → Bool) (n b x : ℕ) (xs : List ℕ) → x < b → same (select g b n) (x ∷ xs) ≡ false
-unfolding select
-behind g zero b x xs h = refl
-behind g (suc n) b x xs h = go (g b) (behind g n (suc b) x xs (omega arith))
-  where
-    go : (y : Bool) → same (select g (suc b) n) (x ∷ xs) ≡ false → same (keep y b (select g (suc b) n)) (x ∷ xs) ≡ false
-    go true ih = rw (ne-eqb b x (λ e. omega arith))
-    go false ih = ih
-
--- a slot of one that the other has not
-differ : (f g : ℕ → Bool) (n b s : ℕ) → b ≤ s → s < b + n → (f s ≡ g s → ⊥) → same (select f b n) (select g b n) ≡ false
-unfolding select
-differ f g zero b s h l e = absurd (omega arith)
-differ f g (suc n) b s h l e = go (f b) (g b) refl refl (ℕ-discrete s b) (λ (r : s ≡ b → ⊥). differ f g n (suc b) s (omega arith) (omega arith) e)
-  where
-    go : (x y : Bool) → f b ≡ x → g b ≡ y → Dec (s ≡ b) → ((s ≡ b → ⊥) → same (select f (suc b) n) (select g (suc b) n) ≡ false) → same (keep x b
-        (select f (suc b) n)) (keep y b (select g (suc b) n)) ≡ false
-    go true false p q r ih = ahead g n (suc b) b (select f (suc b) n) (omega arith)
-    go false true p q r ih = behind f n (suc b) b (select g (suc b) n) (omega arith)
-    go true true p q (yes r) ih = absurd (e (ap f r ∙ p ∙ sym (ap g r ∙ q)))
-    go true true p q (no r) ih = ap (λ (z : Bool). eqb b b && z) (ih r) ∙ and-false (eqb b b)
-    go false false p q (yes r) ih = absurd (e (ap f r ∙ p ∙ sym (ap g r ∙ q)))
-    go false false p q (no r) ih = ih r
+    go : (b : Bool) → same x y ≡ b → b ≡ false
+    go true e = absurd (h (same-eq x y e))
+    go false e = refl
 
 -- a slot of a that b has not
 pub unlike : (a b : List ℕ) (s : ℕ) → length a ≡ 16 → has a s ≡ true → has b s ≡ false → (same (slotsOf a) (slotsOf b) ≡ false) × (same (slotsOf b)
     (slotsOf a) ≡ false)
-unfolding slotsOf
-unlike a b s l p q =
-    let h = in-range a s l p in (
-      differ (has a) (has b) 1024 0 s (omega arith) (omega arith) (λ e. true≢false (sym p ∙ e ∙ q)),
-      differ (has b) (has a) 1024 0 s (omega arith) (omega arith) (λ e. true≢false (sym p ∙ sym e ∙ q)),
-    )
+unlike a b s l p q = (differ _ _ apart, differ _ _ (λ (e : slotsOf b ≡ slotsOf a). apart (sym e)))
+  where
+    apart : slotsOf a ≡ slotsOf b → ⊥
+    apart e =
+        let h = in-range a s l p in
+        true≢false (sym p ∙ sym (slots-have a s h) ∙ ap (any (eqb s)) e ∙ slots-have b s h ∙ q)
 
 both-ways : (x y : Bool) → (x ≡ true → y ≡ true) → (y ≡ true → x ≡ true) → x ≡ y
 both-ways true y h k = sym (h refl)

@@ -5,4 +5,3 @@ pub mod Next
 pub mod Comparing
 pub mod Gathering
 pub mod Each
-pub mod Listing

@@ -13,6 +13,7 @@ use lib.ListN.{length, getD}
 use lib.Pow.{shr-shr}
 use lib.Count.{trailingZeros, under}
 use borrow.Author.Tests.{eqb-true, eqb-false}
+use Rattle.rules.specs.Constants.{slotCount}
 use Rattle.slots.specs.Set.{bit, has, NextFrom, TellsEmpty}
 use Rattle.slots.proofs.Bits.{bit-suc, bit-low, bit-zero}
 use Rattle.slots.proofs.Words.{has-past}
@@ -120,13 +121,16 @@ none-join f from i j h k s p q = go (decLt s i)
     go (no r) = k s (omega arith) q
 
 -- a set whose lowest slot is past the end has none
-pub none-next : (ws : List ℕ) (r : ℕ) → length ws ≡ 16 → NextFrom ws 0 r → TellsEmpty ws (eqb r 1024)
-none-next ws r l n = (λ e s. past e s (decLt s 1024), λ e. (r, n .3 (below (decLt r 1024) (eqb-false r 1024 e))))
+pub none-next : (ws : List ℕ) (r : ℕ) → length ws ≡ 16 → NextFrom ws 0 r → TellsEmpty ws (eqb r slotCount)
+none-next ws r l n = (λ e s. past e s (decLt s slotCount), λ e. (r, n .2 (below (eqb-false r slotCount e)) .1))
   where
-    past : eqb r 1024 ≡ true → (s : ℕ) → Dec (s < 1024) → has ws s ≡ false
-    past e s (yes h) = n .2 s (omega arith) (omega (arith, eqb-true r 1024 e))
+    past : eqb r slotCount ≡ true → (s : ℕ) → Dec (s < slotCount) → has ws s ≡ false
+    past e s (yes h) = n .1 s (omega arith) (omega (arith, eqb-true r slotCount e))
     past e s (no h) = has-past ws s (omega arith)
 
-    below : Dec (r < 1024) → (r ≡ 1024 → ⊥) → r < 1024
-    below (yes h) e = h
-    below (no h) e = absurd (e (omega (arith, n .1)))
+    below : (r ≡ slotCount → ⊥) → r < slotCount
+    below e = go (decLt r slotCount)
+      where
+        go : Dec (r < slotCount) → r < slotCount
+        go (yes h) = h
+        go (no h) = absurd (e (omega (arith, n .0)))

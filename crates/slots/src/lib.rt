@@ -2,13 +2,13 @@
 // the slots, `slotsOf`.
 ghost use mathlib.Core.Path.{_≡_};
 ghost use mathlib.Core.Bool.{Bool, true, false, not, _&&_, _||_};
-ghost use Prim.Native.Nat.{ℕ, _+_, _≤_, _<_};
+ghost use Prim.Native.Nat.{ℕ, _≤_, _<_};
 ghost use lib.ListN.{length, getD};
 ghost use lib.Dec.{eqb};
 ghost use Rattle.rules.specs.Basics.{same};
 ghost use Rattle.rules.specs.Constants.{slotCount};
 ghost use Rattle.numbers.specs.Buffer.{Wrote};
-ghost use Rattle.slots.specs.Set.{has, slotsOf, listed, TellsEmpty, TellsSubset, NextFrom};
+ghost use Rattle.slots.specs.Set.{has, hasWith, slotsOf, TellsEmpty, TellsSubset, NextFrom};
 use rules::SLOT_END;
 use rules::SLOTS;
 use rules::Slot;
@@ -28,41 +28,33 @@ impl SlotSet {
         SlotSet { words: [0; WORDS] }
     }
 
+    // Whether the slot is in the set; a number of 1024 or more is in none.
     pub fn contains(self, slot: Slot) -> bool
-        requires { ⌜ slot .0 < slotCount ⌝ }
         ensures { λ r. ⌜ r ≡ has (self .words) (slot .0) ⌝ }
     {
         let n = slot.0;
-        let i = (n / 64) as usize;
-        let b = n % 64;
-        let w = self.words[i];
-        (w >> b) % 2 == 1
+        if n < SLOT_END {
+            let i = (n / 64) as usize;
+            let b = n % 64;
+            let w = self.words[i];
+            return (w >> b) % 2 == 1;
+        }
+        false
     }
 
-    // The set with `slot` added.
+    // The set with `slot` added; with a number of 1024 or more, the set as it is.
     pub fn insert(self, slot: Slot) -> SlotSet
-        requires { ⌜ slot .0 < slotCount ⌝ }
-        ensures { λ r. ⌜ ((s : ℕ) → has (r .words) s ≡ (has (self .words) s || eqb s (slot .0))) ⌝ }
+        ensures { λ r. ⌜ ((s : ℕ) → has (r .words) s ≡ hasWith (self .words) (slot .0) s) ⌝ }
     {
         let n = slot.0;
-        let i = (n / 64) as usize;
-        let b = n % 64;
-        let mut r = self;
-        r.words[i] = r.words[i] | (1u64 << b);
-        r
-    }
-
-    // The set without `slot`.
-    pub fn remove(self, slot: Slot) -> SlotSet
-        requires { ⌜ slot .0 < slotCount ⌝ }
-        ensures { λ r. ⌜ ((s : ℕ) → has (r .words) s ≡ (has (self .words) s && not (eqb s (slot .0)))) ⌝ }
-    {
-        let n = slot.0;
-        let i = (n / 64) as usize;
-        let b = n % 64;
-        let mut r = self;
-        r.words[i] = r.words[i] & !(1u64 << b);
-        r
+        if n < SLOT_END {
+            let i = (n / 64) as usize;
+            let b = n % 64;
+            let mut r = self;
+            r.words[i] = r.words[i] | (1u64 << b);
+            return r;
+        }
+        self
     }
 
     // The slots of either set.
@@ -87,9 +79,8 @@ impl SlotSet {
         r
     }
 
-    // The lowest slot of the set that is not below `from`, or 1024.
+    // The lowest slot of the set that is not below `from`, or 1024 where there is none. Both are numbers and no `Slot`, since 1024 is no slot.
     pub fn next(self, from: u16) -> u16
-        requires { ⌜ from ≤ slotCount ⌝ }
         ensures { λ r. ⌜ NextFrom (self .words) from r ⌝ }
     {
         let mut s = from;
@@ -102,10 +93,10 @@ impl SlotSet {
             }
             s = (s / 64 + 1) * 64;
         }
-        s
+        SLOT_END
     }
 
-    // The lowest slot, or 1024.
+    // The lowest slot, or 1024 where there is none.
     pub fn lowest(self) -> u16
         ensures { λ r. ⌜ NextFrom (self .words) 0 r ⌝ }
     {
@@ -162,22 +153,6 @@ pub fn list_slots(out: &mut [u16], a: SlotSet) -> usize
         s = a.next(s + 1);
     }
     at
-}
-
-// The set of the slots in a list; numbers of 1024 and more are passed over.
-pub fn of_list(list: &[u16]) -> SlotSet
-    ensures { λ r. ⌜ ((s : ℕ) → s < slotCount → has (r .words) s ≡ listed s (now (list .entry))) ⌝ }
-{
-    let mut r = SlotSet::empty();
-    let mut i: usize = 0;
-    while i < list.len() {
-        let x = list[i];
-        i += 1;
-        if x < SLOT_END {
-            r = r.insert(Slot(x));
-        }
-    }
-    r
 }
 
 // The slots at which a table has a value.

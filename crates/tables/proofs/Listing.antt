@@ -5,10 +5,10 @@ use mathlib.Core.Path.{_≡_, refl, sym, ap, ap₂, _∙_, subst}
 use mathlib.Core.Bool.{Bool, true, false, not}
 use mathlib.Core.List.{List, [], _∷_}
 use lib.ListN.{length, getD}
-use Rattle.rules.specs.Basics.{if_then_else_, any, indices}
+use Rattle.rules.specs.Basics.{if_then_else_, any, indices, keep, upTo}
 use Rattle.rules.specs.Constants.{slotCount}
 use Rattle.rules.specs.Group.{SlotState, freeSlot, assigned, revoking, targeted, setA, setP, setM}
-use Rattle.slots.specs.Set.{has, keep, select, slotsOf, TellsEmpty}
+use Rattle.slots.specs.Set.{has, select, slotsOf, TellsEmpty}
 use Rattle.slots.specs.declared.SlotSet.{SlotSet}
 use Rattle.slots.proofs.Selecting.{slots-are}
 use Rattle.slots.proofs.Words.{in-range}
@@ -17,18 +17,14 @@ use Rattle.tables.specs.declared.gathering.PlaceSets.{PlaceSets}
 use Rattle.tables.proofs.Lists.{any-off, any-on}
 
 module _ {A : Type 0} (t : A → Bool) (d : A) (f : ℕ → Bool) where
-  keep-if : (b : Bool) (x : ℕ) (l : List ℕ) → keep b x l ≡ (if b then x ∷ l else l)
-  keep-if true x l = refl
-  keep-if false x l = refl
-
   -- a pick over the places of a list, and over the list
   pub select-indices : (l : List A) (b : ℕ) → ((i : ℕ) → i < length l → f (b + i) ≡ t (getD l i d)) → select f b (length l) ≡ indices t b l
-  unfolding select
+  unfolding keep upTo
   select-indices [] b h = refl
   select-indices (x ∷ l) b h =
       let e : f b ≡ t x = ap f (plus-zero b) ∙ h 0 (omega arith) in
       let r = select-indices l (suc b) (λ i p. ap f (move b i) ∙ h (suc i) (omega arith)) in
-      ap₂ (λ (y : Bool) (z : List ℕ). keep y b z) e r ∙ keep-if (t x) b (indices t (suc b) l)
+      ap₂ (λ (y : Bool) (z : List ℕ). if y then b ∷ z else z) e r
     where
       plus-zero : (n : ℕ) → n ≡ n + 0
       plus-zero n = omega arith

@@ -1,11 +1,13 @@
 -- Tests and changes of the elements of a list: whether some element passes a test, and the list with each element changed.
-use Prim.Native.Nat.{ℕ, zero, suc, _<_}
+use Prim.Native.Nat.{ℕ, zero, suc, _+_, _≤_, _<_}
 use native.Mathlib.Nat.{le-of-suc-le-suc, not-suc-le-zero}
 use native.Mathlib.Omega.{arith}
-use mathlib.Core.Path.{_≡_, refl, ap, ap₂, _∙_}
+use mathlib.Core.Path.{_≡_, refl, sym, ap, ap₂, _∙_}
 use mathlib.Core.Bool.{Bool, true, false, _||_, or-true}
 use mathlib.Core.List.{List, [], _∷_, map}
-use lib.ListN.{length, getD}
+use native.Mathlib.Numerals.{add-one}
+use lib.ListN.{length, getD, drop, drop-of-length-le}
+use lib.Seq.{drop-cons}
 use Rattle.rules.specs.Basics.{any}
 
 module _ {A : Type 0} (d : A) where
@@ -26,6 +28,25 @@ module _ {A : Type 0} (d : A) where
   pub map-same : (k : A → A) (l : List A) → ((i : ℕ) → i < length l → k (getD l i d) ≡ getD l i d) → map k l ≡ l
   map-same k [] h = refl
   map-same k (x ∷ l) h = ap₂ (λ (y : A) (z : List A). y ∷ z) (h 0 (omega arith)) (map-same k l (λ i q. h (suc i) (omega arith)))
+
+-- a loop over a list that asks whether some element passes: what is left of the list decides
+module _ {A : Type 0} (d : A) (f : A → Bool) (l : List A) where
+  pub record Open (i : ℕ) : Type 0 where
+    pub in-list : i ≤ length l
+    pub decides : any f l ≡ any f (drop i l)
+
+  pub open-begin : Open 0
+  open-begin = record { in-list = omega arith; decides = refl }
+
+  module _ {i : ℕ} (o : Open i) where
+    pub open-found : i < length l → f (getD l i d) ≡ true → true ≡ any f l
+    open-found h e = sym (o .decides ∙ ap (any f) (drop-cons l i d h) ∙ rw e)
+
+    pub open-more : i < length l → f (getD l i d) ≡ false → Open (i + 1)
+    open-more h e = record { in-list = omega arith; decides = o .decides ∙ ap (any f) (drop-cons l i d h) ∙ rw (e, add-one i) }
+
+    pub open-end : length l ≤ i → false ≡ any f l
+    open-end h = sym (o .decides ∙ ap (any f) (drop-of-length-le l h))
 
 module _ {A : Type 0} where
   pub any-ext : (f g : A → Bool) → ((x : A) → f x ≡ g x) → (l : List A) → any f l ≡ any g l

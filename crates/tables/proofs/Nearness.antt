@@ -6,24 +6,17 @@ use native.Mathlib.Decide.{ℕ-discrete}
 use native.Mathlib.Omega.{arith}
 use lib.Dec.{eqb}
 use lib.Bits.{bitOr, or-add-and, and-le-l, and-le-r}
-use borrow.Author.Tests.{ne-eqb}
+use Rattle.rules.specs.Basics.{if_then_else_}
 use Rattle.rules.specs.Constants.{noPlace}
 use Rattle.rules.specs.Group.{SlotState, assigned, revoking, targeted}
+use Rattle.rules.proofs.Lists.{or-false}
 use Rattle.tables.specs.Places.{near, claimable}
 
 -- a slot that is not near is in none of the four sets
 module _ (p t h : ℕ) (w : Bool) where
-  or-none : (x y : Bool) → (x || y) ≡ false → (x ≡ false) × (y ≡ false)
-  or-none true y e = (e, go y e)
-    where
-      go : (y : Bool) → true ≡ false → y ≡ false
-      go true e = e
-      go false e = refl
-  or-none false y e = (refl, e)
-
   pub far : near p t h ≡ false → (eqb h p ≡ false) × (eqb t p ≡ false)
   unfolding near
-  far e = or-none (eqb h p) (eqb t p) e
+  far e = or-false (eqb h p) (eqb t p) e
 
   module _ (n : near p t h ≡ false) where
     pub far-a : assigned p (record { target = t; holder = h; waiting = w }) ≡ false
@@ -42,10 +35,14 @@ module _ (p t h : ℕ) (w : Bool) where
     unfolding claimable targeted
     far-c = ap (λ (x : Bool). x && eqb h noPlace) (far n .1)
 
--- the tests of a slot that is not near
-pub near-none : (p t h : ℕ) → (h ≡ p → ⊥) → (t ≡ p → ⊥) → near p t h ≡ false
-unfolding near
-near-none p t h x y = rw (ne-eqb h p x, ne-eqb t p y)
+-- the mark of a slot
+pub mark-none : (x : Bool) (m : ℕ) → m ≡ (if x then 1 else 0) → m ≡ 0 → x ≡ false
+mark-none true m e z = absurd (omega arith)
+mark-none false m e z = refl
+
+pub mark-some : (x : Bool) (m : ℕ) → m ≡ (if x then 1 else 0) → (m ≡ 0 → ⊥) → x ≡ true
+mark-some true m e h = refl
+mark-some false m e h = absurd (h e)
 
 -- one slot more that is not near
 pub none-more : (f : ℕ → Bool) (from i : ℕ) → ((s : ℕ) → from ≤ s → s < i → f s ≡ false) → f i ≡ false → (s : ℕ) → from ≤ s → s < i + 1 → f s ≡ false

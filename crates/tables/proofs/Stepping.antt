@@ -41,9 +41,6 @@ advanced-length p vs owned = go (waits p vs owned) (strays p vs owned) (frees p 
     go false false true = length-map (map (freed p) vs) (claimed p) ∙ length-map vs (freed p)
     go false false false = length-map vs (claimed p)
 
-pub holds-past : (ws : List ℕ) (s : ℕ) → length ws ≡ 16 → slotCount ≤ s → false ≡ has ws s
-holds-past ws s l h = sym (has-past ws s (omega arith))
-
 module _ (p : ℕ) (vs : List SlotState) (len : length vs ≡ slotCount) (lt : p < noPlace) where
   n : eqb noPlace p ≡ false
   n = ne-eqb noPlace p (λ e. omega arith)

@@ -13,7 +13,6 @@ ghost use Rattle.tables.specs.Advances.{ownedOf, Advances};
 use crate::bools::both;
 use crate::bools::either;
 use crate::gathering::PlaceSets;
-use rules::SLOT_END;
 use rules::Slot;
 use slots::SlotSet;
 
@@ -28,23 +27,14 @@ pub struct Advance {
     pub changed: bool,
 }
 
-// Whether slot s, which may be any number, is in the set.
-fn holds(set: SlotSet, s: u16) -> bool
-    ensures { λ r. ⌜ r ≡ has (set .words) s ⌝ }
-{
-    if s < SLOT_END {
-        return set.contains(Slot(s));
-    }
-    false
-}
-
 // Whether some slot of the list is in the set.
 fn meets(set: SlotSet, list: &[u16]) -> bool
     ensures { λ r. ⌜ r ≡ any (has (set .words)) (now (list .entry)) ⌝ }
 {
     let mut i: usize = 0;
     while i < list.len() {
-        if holds(set, list[i]) {
+        let s = list[i];
+        if set.contains(Slot(s)) {
             return true;
         }
         i += 1;

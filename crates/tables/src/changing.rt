@@ -29,20 +29,20 @@ pub enum Change {
     Move(bool, bool),
 }
 
-fn without(entry: u8, p: u8) -> u8
-    ensures { λ r. ⌜ r ≡ (if eqb entry p then noPlace else entry) ⌝ }
+fn without(entry: u8, p: Place) -> u8
+    ensures { λ r. ⌜ r ≡ (if eqb entry (p .0) then noPlace else entry) ⌝ }
 {
-    if entry == p {
+    if entry == p.0 {
         return NO_PLACE;
     }
     entry
 }
 
-fn vacate_one(e: Entry, p: u8) -> Entry
-    ensures { λ r. ⌜ viewEntry r ≡ vacated p (viewEntry e) ⌝ }
+fn vacate_one(e: Entry, p: Place) -> Entry
+    ensures { λ r. ⌜ viewEntry r ≡ vacated (p .0) (viewEntry e) ⌝ }
 {
     let target = without(e.target, p);
-    if e.holder == p {
+    if e.holder == p.0 {
         return Entry {
             target: target,
             holder: NO_PLACE,
@@ -56,11 +56,11 @@ fn vacate_one(e: Entry, p: u8) -> Entry
     }
 }
 
-fn free_one(e: Entry, frees: bool, p: u8) -> Entry
-    ensures { λ r. ⌜ viewEntry r ≡ (if frees then freed p (viewEntry e) else viewEntry e) ⌝ }
+fn free_one(e: Entry, frees: bool, p: Place) -> Entry
+    ensures { λ r. ⌜ viewEntry r ≡ (if frees then freed (p .0) (viewEntry e) else viewEntry e) ⌝ }
 {
     if frees {
-        if e.holder == p {
+        if e.holder == p.0 {
             if e.waiting {
                 return Entry {
                     target: e.target,
@@ -73,12 +73,12 @@ fn free_one(e: Entry, frees: bool, p: u8) -> Entry
     e
 }
 
-fn revoke_one(e: Entry, p: u8) -> Entry
-    ensures { λ r. ⌜ viewEntry r ≡ revoked p (viewEntry e) ⌝ }
+fn revoke_one(e: Entry, p: Place) -> Entry
+    ensures { λ r. ⌜ viewEntry r ≡ revoked (p .0) (viewEntry e) ⌝ }
 {
-    if e.holder == p {
+    if e.holder == p.0 {
         if !e.waiting {
-            if e.target != p {
+            if e.target != p.0 {
                 return Entry {
                     target: e.target,
                     holder: e.holder,
@@ -90,14 +90,14 @@ fn revoke_one(e: Entry, p: u8) -> Entry
     e
 }
 
-fn claim_one(e: Entry, p: u8) -> Entry
-    ensures { λ r. ⌜ viewEntry r ≡ claimed p (viewEntry e) ⌝ }
+fn claim_one(e: Entry, p: Place) -> Entry
+    ensures { λ r. ⌜ viewEntry r ≡ claimed (p .0) (viewEntry e) ⌝ }
 {
-    if e.target == p {
+    if e.target == p.0 {
         if e.holder == NO_PLACE {
             return Entry {
                 target: e.target,
-                holder: p,
+                holder: p.0,
                 waiting: false,
             };
         }
@@ -105,8 +105,8 @@ fn claim_one(e: Entry, p: u8) -> Entry
     e
 }
 
-fn move_one(e: Entry, frees: bool, revokes: bool, p: u8) -> Entry
-    ensures { λ r. ⌜ viewEntry r ≡ movedBy frees revokes p (viewEntry e) ⌝ }
+fn move_one(e: Entry, frees: bool, revokes: bool, p: Place) -> Entry
+    ensures { λ r. ⌜ viewEntry r ≡ movedBy frees revokes (p .0) (viewEntry e) ⌝ }
 {
     let x = free_one(e, frees, p);
     if revokes {
@@ -115,8 +115,8 @@ fn move_one(e: Entry, frees: bool, revokes: bool, p: u8) -> Entry
     claim_one(x, p)
 }
 
-fn change_one(what: Change, e: Entry, p: u8) -> Entry
-    ensures { λ r. ⌜ viewEntry r ≡ changeBy what p (viewEntry e) ⌝ }
+fn change_one(what: Change, e: Entry, p: Place) -> Entry
+    ensures { λ r. ⌜ viewEntry r ≡ changeBy what (p .0) (viewEntry e) ⌝ }
 {
     match what {
         Change::Vacate => vacate_one(e, p),
@@ -130,11 +130,11 @@ fn change_lists(
     holder: [u8; SLOTS],
     waiting: [bool; SLOTS],
     what: Change,
-    p: u8,
+    p: Place,
     first: usize,
 ) -> Tables
-    requires { ⌜ (first ≤ slotCount) × NoneNear p target holder 0 first ⌝ }
-    ensures { λ r. ⌜ viewTables r ≡ map (changeBy what p) (viewLists target holder waiting) ⌝ }
+    requires { ⌜ (first ≤ slotCount) × NoneNear (p .0) target holder 0 first ⌝ }
+    ensures { λ r. ⌜ viewTables r ≡ map (changeBy what (p .0)) (viewLists target holder waiting) ⌝ }
 {
     let mut t = target;
     let mut h = holder;
@@ -161,8 +161,8 @@ fn change_lists(
 
 // The tables with each slot changed; the slots that are not near p are not looked at one by one. Where none is near, the tables stay as they are, and none
 // of them is copied.
-fn change_tables(tables: Tables, what: Change, p: u8) -> Tables
-    ensures { λ r. ⌜ viewTables r ≡ map (changeBy what p) (viewTables tables) ⌝ }
+fn change_tables(tables: Tables, what: Change, p: Place) -> Tables
+    ensures { λ r. ⌜ viewTables r ≡ map (changeBy what (p .0)) (viewTables tables) ⌝ }
 {
     let first = crate::searching::next_near(&tables.target, &tables.holder, p, 0);
     if first < SLOTS {
@@ -174,29 +174,22 @@ fn change_tables(tables: Tables, what: Change, p: u8) -> Tables
     tables
 }
 
-// The tables after steps 2 and 3, written only if A or P changed.
-fn moved(tables: Tables, step: Advance, p: u8) -> Tables
-    ensures { λ r. ⌜ viewTables r ≡ (if step .changed then map (movedBy (step .frees) (step .revokes) p) (viewTables tables) else viewTables tables) ⌝ }
-{
-    if step.changed {
-        return change_tables(tables, Change::Move(step.frees, step.revokes), p);
-    }
-    tables
-}
-
 impl Tables {
     // The tables after what steps 2 and 3 of place p came to; they are written only if A or P changed.
     pub fn follow(self, p: Place, step: Advance) -> Tables
         ensures { λ r. ⌜ viewTables r ≡ (if step .changed then map (movedBy (step .frees) (step .revokes) (p .0)) (viewTables self) else viewTables self) ⌝ }
     {
-        moved(self, step, p.0)
+        if step.changed {
+            return change_tables(self, Change::Move(step.frees, step.revokes), p);
+        }
+        self
     }
 
     // The place p holds nothing and is nobody's target; all other entries stay.
     pub fn vacate(self, p: Place) -> Tables
         ensures { λ r. ⌜ viewTables r ≡ map (vacated (p .0)) (viewTables self) ⌝ }
     {
-        change_tables(self, Change::Vacate, p.0)
+        change_tables(self, Change::Vacate, p)
     }
 
     // Another target; who holds what stays.

@@ -35,14 +35,15 @@ fn mark(word: u64, b: u64, on: bool) -> u64
     word
 }
 
-pub fn gather_lists<'a>(
+// The sets of the place p in three tables that are lent.
+fn gather_lists<'a>(
     target: &'a [u8; SLOTS],
     holder: &'a [u8; SLOTS],
     waiting: &'a [bool; SLOTS],
-    p: u8,
+    p: Place,
 ) -> PlaceSets
     requires { ⌜ (length (now target) ≡ slotCount) × (length (now holder) ≡ slotCount) × (length (now waiting) ≡ slotCount) ⌝ }
-    ensures { λ r. ⌜ Gathers p (viewLists (now (target .entry)) (now (holder .entry)) (now (waiting .entry))) r ⌝ }
+    ensures { λ r. ⌜ Gathers (p .0) (viewLists (now (target .entry)) (now (holder .entry)) (now (waiting .entry))) r ⌝ }
 {
     let mut assigned: [u64; WORDS] = [0; WORDS];
     let mut revoking: [u64; WORDS] = [0; WORDS];
@@ -55,10 +56,10 @@ pub fn gather_lists<'a>(
         let h = holder[s];
         let w = waiting[s];
         let t = target[s];
-        assigned[k] = mark(assigned[k], b, both(h == p, !w));
-        revoking[k] = mark(revoking[k], b, both(h == p, w));
-        targets[k] = mark(targets[k], b, t == p);
-        claimable[k] = mark(claimable[k], b, both(t == p, h == NO_PLACE));
+        assigned[k] = mark(assigned[k], b, both(h == p.0, !w));
+        revoking[k] = mark(revoking[k], b, both(h == p.0, w));
+        targets[k] = mark(targets[k], b, t == p.0);
+        claimable[k] = mark(claimable[k], b, both(t == p.0, h == NO_PLACE));
         s = crate::searching::next_near(target, holder, p, s + 1);
     }
     PlaceSets {
@@ -74,6 +75,6 @@ impl Tables {
     pub fn gather(self, p: Place) -> PlaceSets
         ensures { λ r. ⌜ Gathers (p .0) (viewTables self) r ⌝ }
     {
-        gather_lists(&self.target, &self.holder, &self.waiting, p.0)
+        gather_lists(&self.target, &self.holder, &self.waiting, p)
     }
 }

@@ -4,30 +4,32 @@ ghost use mathlib.Core.Path.{_≡_};
 ghost use mathlib.Core.Bool.{true, false};
 ghost use Prim.Native.Nat.{ℕ, _+_, _≤_, _<_};
 ghost use lib.ListN.{length, getD};
+ghost use Rattle.rules.specs.Basics.{if_then_else_};
 ghost use Rattle.rules.specs.Constants.{slotCount};
-ghost use Rattle.tables.specs.Places.{near, NoneNear};
+ghost use Rattle.tables.specs.Places.{near, NoneNear, NextNear};
+use rules::Place;
 use rules::SLOTS;
 
 // The last slot at which eight begin.
 const LAST_EIGHT: usize = SLOTS - 8;
 
-// 0 only where the slot is not near p.
-fn near_mark(target: u8, holder: u8, p: u8) -> u8
-    ensures { λ r. ⌜ (r ≡ 0 → near p target holder ≡ false) ⌝ }
+// 1 where the slot is near p, else 0.
+fn near_mark(target: u8, holder: u8, p: Place) -> u8
+    ensures { λ r. ⌜ r ≡ (if near (p .0) target holder then 1 else 0) ⌝ }
 {
-    if holder == p {
+    if holder == p.0 {
         return 1;
     }
-    if target == p {
+    if target == p.0 {
         return 1;
     }
     0
 }
 
 // Whether it is sure that none of the eight slots from `from` on is near p.
-fn none_near<'a>(target: &'a [u8; SLOTS], holder: &'a [u8; SLOTS], p: u8, from: usize) -> bool
+fn none_near<'a>(target: &'a [u8; SLOTS], holder: &'a [u8; SLOTS], p: Place, from: usize) -> bool
     requires { ⌜ (length (now target) ≡ slotCount) × (length (now holder) ≡ slotCount) × (from + 8 ≤ slotCount) ⌝ }
-    ensures { λ r. ⌜ (r ≡ true → NoneNear p (now (target .entry)) (now (holder .entry)) from (from + 8)) ⌝ }
+    ensures { λ r. ⌜ (r ≡ true → NoneNear (p .0) (now (target .entry)) (now (holder .entry)) from (from + 8)) ⌝ }
 {
     let mut marks: u8 = 0;
     let mut i: usize = 0;
@@ -40,9 +42,9 @@ fn none_near<'a>(target: &'a [u8; SLOTS], holder: &'a [u8; SLOTS], p: u8, from: 
 }
 
 // The slot that is reached by stepping over eights of which none is near p.
-fn skip_far<'a>(target: &'a [u8; SLOTS], holder: &'a [u8; SLOTS], p: u8, from: usize) -> usize
+fn skip_far<'a>(target: &'a [u8; SLOTS], holder: &'a [u8; SLOTS], p: Place, from: usize) -> usize
     requires { ⌜ (length (now target) ≡ slotCount) × (length (now holder) ≡ slotCount) × (from ≤ slotCount) ⌝ }
-    ensures { λ r. ⌜ (from ≤ r) × (r ≤ slotCount) × NoneNear p (now (target .entry)) (now (holder .entry)) from r ⌝ }
+    ensures { λ r. ⌜ (from ≤ r) × (r ≤ slotCount) × NoneNear (p .0) (now (target .entry)) (now (holder .entry)) from r ⌝ }
 {
     let mut i = from;
     while i <= LAST_EIGHT {
@@ -55,10 +57,15 @@ fn skip_far<'a>(target: &'a [u8; SLOTS], holder: &'a [u8; SLOTS], p: u8, from: u
     i
 }
 
-// A slot before which, from `from` on, none is near p; at most 1024.
-pub fn next_near<'a>(target: &'a [u8; SLOTS], holder: &'a [u8; SLOTS], p: u8, from: usize) -> usize
+// The first slot from `from` on that is near p, or 1024 where there is none. Numbers and no `Slot`, since 1024 is no slot.
+pub fn next_near<'a>(
+    target: &'a [u8; SLOTS],
+    holder: &'a [u8; SLOTS],
+    p: Place,
+    from: usize,
+) -> usize
     requires { ⌜ (length (now target) ≡ slotCount) × (length (now holder) ≡ slotCount) × (from ≤ slotCount) ⌝ }
-    ensures { λ r. ⌜ (from ≤ r) × (r ≤ slotCount) × NoneNear p (now (target .entry)) (now (holder .entry)) from r ⌝ }
+    ensures { λ r. ⌜ NextNear (p .0) (now (target .entry)) (now (holder .entry)) from r ⌝ }
 {
     let mut i = skip_far(target, holder, p, from);
     while i < SLOTS {

@@ -13,26 +13,28 @@ use crate::Tables;
 use rules::NO_PLACE;
 use rules::Place;
 use rules::SLOTS;
+use rules::Slot;
 
-// The holder of slot s, which may be any number; 255 for a number that is no slot.
-fn holder_at(holder: &[u8; SLOTS], s: u16) -> u8
+// The holder of a slot; 255 for a number of 1024 or more.
+fn holder_at(holder: &[u8; SLOTS], slot: Slot) -> u8
     requires { ⌜ length (now holder) ≡ slotCount ⌝ }
-    ensures { λ r. ⌜ r ≡ getD (now (holder .entry)) s noPlace ⌝ }
+    ensures { λ r. ⌜ r ≡ getD (now (holder .entry)) (slot .0) noPlace ⌝ }
 {
-    let i = s as usize;
+    let i = slot.0 as usize;
     if i < SLOTS {
         return holder[i];
     }
     NO_PLACE
 }
 
-fn any_unheld<'a>(holder: &'a [u8; SLOTS], list: &'a [u16], p: u8) -> bool
+fn any_unheld<'a>(holder: &'a [u8; SLOTS], list: &'a [u16], p: Place) -> bool
     requires { ⌜ length (now holder) ≡ slotCount ⌝ }
-    ensures { λ r. ⌜ r ≡ any (λ s. not (eqb (getD (now (holder .entry)) s noPlace) p)) (now (list .entry)) ⌝ }
+    ensures { λ r. ⌜ r ≡ any (λ s. not (eqb (getD (now (holder .entry)) s noPlace) (p .0))) (now (list .entry)) ⌝ }
 {
     let mut i: usize = 0;
     while i < list.len() {
-        if holder_at(holder, list[i]) != p {
+        let s = list[i];
+        if holder_at(holder, Slot(s)) != p.0 {
             return true;
         }
         i += 1;
@@ -45,7 +47,7 @@ impl Tables {
     pub fn lists_unheld(self, p: Place, list: &[u16]) -> bool
         ensures { λ r. ⌜ r ≡ any (holderNot (viewTables self) (p .0)) (now (list .entry)) ⌝ }
     {
-        any_unheld(&self.holder, list, p.0)
+        any_unheld(&self.holder, list, p)
     }
 
     // Whether p is the target of some slot.

@@ -5,10 +5,11 @@ use mathlib.Core.List.{List, [], _∷_, append-nil}
 use Prim.Native.Nat.{ℕ, _+_, _-_, _≤_, _<_}
 use native.Mathlib.Omega.{arith}
 use lib.ListN.{length}
+use Rattle.rules.specs.Basics.{keep, upTo}
 use Rattle.rules.specs.Constants.{slotCount}
 use Rattle.slots.specs.Set.{has, select, slotsOf}
 use Rattle.numbers.proofs.Writing.{Writing, begin, to-go₁, same-len, put-one, ended}
-use Rattle.slots.proofs.Selecting.{select-next, select-skip}
+use Rattle.slots.proofs.Selecting.{select-in, next-ahead, next-skips}
 use Rattle.slots.proofs.list_slots.Statement.{statement}
 use Rattle.slots.proofs.list_slots.Tie as tie
 
@@ -29,17 +30,17 @@ Hit c =
 hit : (c : tie.In-loop Inv-loop μ-loop) → Hit (c .before)
 hit c =
     let l = c .before .loop in
-    rw (select-next _ (l .s) slotCount (omega arith), l .inv .1 (omega arith)) at (l .inv .2)
+    rw (select-in _ (l .s) slotCount (omega arith) (l .inv .1 (omega arith))) at (l .inv .2)
 
 next-requires : tie.Need-next-requires Inv-loop μ-loop
-next-requires c κs = omega arith
+next-requires c κs = tt
 
 loop-holds : tie.Need-loop-holds Inv-loop μ-loop
 unfolding slotsOf
 loop-holds c =
     let e = c .next .ensures in
     let ws = c .before .before .args .a .words in
-    (e .1, e .3, begin _ _ _ (append-nil _ ∙ sym (select-skip (has ws) slotCount 0 (c .next .result) (e .0) (e .1) (e .2))) (c .before .before .pre))
+    (e .0, λ h. e .2 h .1, begin _ _ _ (append-nil _ ∙ sym (next-skips ws 0 (c .next .result) (omega arith) e)) (c .before .before .pre))
 
 mul-out : tie.Need-mul-out Inv-loop μ-loop
 mul-out c = let s = hit c in omega (arith, to-go₁ s, same-len s, s .fits)
@@ -54,23 +55,25 @@ add-next : tie.Need-add-next Inv-loop μ-loop
 add-next c = omega arith
 
 next-requires-2 : tie.Need-next-requires-2 Inv-loop μ-loop
-next-requires-2 c κs = omega arith
+next-requires-2 c κs = tt
 
 loop-less : tie.Need-loop-less Inv-loop μ-loop
-loop-less c = let n = c .next2 .ensures .0 in omega (arith, n)
+loop-less c =
+    let l = c .before .before .loop in
+    omega (arith, next-ahead (c .before .before .before .before .before .args .a .words) (l .s + 1) (c .next2 .result) (omega arith) (c .next2 .ensures))
 
 loop-again : tie.Need-loop-again Inv-loop μ-loop
 loop-again c =
     let e = c .next2 .ensures in
     let l = c .before .before .loop in
     let ws = c .before .before .before .before .before .args .a .words in
-    (e .1, e .3, rw (select-skip (has ws) slotCount (l .s + 1) (c .next2 .result) (e .0) (e .1) (e .2)) at (put-one (hit (c .before))))
+    (e .0, λ h. e .2 h .1, rw (next-skips ws (l .s + 1) (c .next2 .result) (omega arith) e) at (put-one (hit (c .before))))
 
 same-length : tie.Need-same-length Inv-loop μ-loop
 same-length c = same-len (c .before .loop .inv .2)
 
 returns : tie.Need-returns Inv-loop μ-loop
-unfolding select
+unfolding keep upTo
 returns c =
     let l = c .before .loop in
     let e : l .s ≡ slotCount = omega arith in

@@ -6,10 +6,11 @@ use Prim.Native.Nat.{ℕ, _+_, _-_, _*_, _≤_, _<_}
 use native.Mathlib.Nat.{zero-add, add-zero}
 use native.Mathlib.Omega.{arith}
 use lib.ListN.{length}
+use Rattle.rules.specs.Basics.{keep, upTo}
 use Rattle.rules.specs.Constants.{slotCount}
 use Rattle.rules.specs.Records.{number, differences}
 use Rattle.slots.specs.Set.{has, select, slotsOf}
-use Rattle.slots.proofs.Selecting.{select-skip}
+use Rattle.slots.proofs.Selecting.{next-ahead, next-skips}
 use Rattle.records.proofs.Differences.{differences-length, differences-le}
 use Rattle.records.proofs.sets.differences_len.Statement.{statement}
 use Rattle.records.proofs.sets.differences_len.Tie as tie
@@ -38,17 +39,17 @@ next c =
     ap (λ (k : ℕ). l .n + k) (sym (differences-length (has ws) (l .last) (l .slot) slotCount (omega arith) (l .inv .2 (omega arith)))) ∙ l .inv .3
 
 next-requires : tie.Need-next-requires Inv-loop μ-loop
-next-requires c κs = omega arith
+next-requires c κs = tt
 
 loop-holds : tie.Need-loop-holds Inv-loop μ-loop
 unfolding slotsOf
 loop-holds c =
     let e = c .next .ensures in
     let ws = c .before .args .set .words in (
-      e .1,
       e .0,
-      e .3,
-      zero-add _ ∙ ap (λ l. length (differences 0 l)) (sym (select-skip (has ws) slotCount 0 (c .next .result) (e .0) (e .1) (e .2))),
+      omega arith,
+      λ h. e .2 h .1,
+      zero-add _ ∙ ap (λ l. length (differences 0 l)) (sym (next-skips ws 0 (c .next .result) (omega arith) e)),
       differences-le (has ws) 0 0 slotCount (omega arith),
     )
 
@@ -68,10 +69,13 @@ add-next : tie.Need-add-next Inv-loop μ-loop
 add-next c = omega arith
 
 next-requires-2 : tie.Need-next-requires-2 Inv-loop μ-loop
-next-requires-2 c κs = omega arith
+next-requires-2 c κs = tt
 
 loop-less : tie.Need-loop-less Inv-loop μ-loop
-loop-less c = let n = c .next2 .ensures .0 in omega (arith, n)
+loop-less c =
+    let l = c .before .before .before .loop in
+    let ws = c .before .before .before .before .before .args .set .words in
+    omega (arith, next-ahead ws (l .slot + 1) (c .next2 .result) (omega arith) (c .next2 .ensures))
 
 loop-again : tie.Need-loop-again Inv-loop μ-loop
 loop-again c =
@@ -79,11 +83,11 @@ loop-again c =
     let l = c .before .before .before .loop in
     let ws = c .before .before .before .before .before .args .set .words in
     let t = next (c .before .before) in
-    let k = rw (select-skip (has ws) slotCount (l .slot + 1) (c .next2 .result) (e .0) (e .1) (e .2)) at t in
-    (e .1, omega (arith, e .0), e .3, omega (arith, k, c .before .number-len .ensures), l .inv .4)
+    let k = rw (next-skips ws (l .slot + 1) (c .next2 .result) (omega arith) e) at t in
+    (e .0, omega (arith, next-ahead ws (l .slot + 1) (c .next2 .result) (omega arith) e), λ h. e .2 h .1, omega (arith, k, c .before .number-len .ensures), l .inv .4)
 
 returns : tie.Need-returns Inv-loop μ-loop
-unfolding differences select
+unfolding differences keep upTo
 returns c =
     let l = c .before .loop in
     let e : l .slot ≡ slotCount = omega arith in

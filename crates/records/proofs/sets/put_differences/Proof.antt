@@ -5,11 +5,12 @@ use mathlib.Core.Bool.{true}
 use mathlib.Core.List.{[], _∷_, append-nil}
 use Prim.Native.Nat.{_+_, _-_, _≤_, _<_}
 use native.Mathlib.Omega.{arith}
+use Rattle.rules.specs.Basics.{keep, upTo}
 use Rattle.rules.specs.Constants.{slotCount}
 use Rattle.rules.specs.Records.{number, differences}
 use Rattle.numbers.proofs.Writing.{Writing, begin, same-len, room-at, put-at, ended}
 use Rattle.slots.specs.Set.{has, select, slotsOf}
-use Rattle.slots.proofs.Selecting.{select-skip}
+use Rattle.slots.proofs.Selecting.{next-ahead, next-skips}
 use Rattle.records.proofs.Differences.{run-next}
 use Rattle.records.proofs.sets.put_differences.Statement.{statement}
 use Rattle.records.proofs.sets.put_differences.Tie as tie
@@ -36,14 +37,14 @@ next c =
     run-next (has (c .before .before .before .before .args .set .words)) (l .last) (l .slot) slotCount (omega arith) (l .inv .2 (omega arith)) (l .inv .3)
 
 next-requires : tie.Need-next-requires Inv-loop μ-loop
-next-requires c κs = omega arith
+next-requires c κs = tt
 
 loop-holds : tie.Need-loop-holds Inv-loop μ-loop
 unfolding slotsOf
 loop-holds c =
     let e = c .next .ensures in
     let ws = c .before .before .args .set .words in
-    (e .1, e .0, e .3, begin _ _ _ (append-nil _ ∙ ap (differences 0) (sym (select-skip (has ws) slotCount 0 (c .next .result) (e .0) (e .1) (e .2)))) (c .before .before .pre))
+    (e .0, omega arith, λ h. e .2 h .1, begin _ _ _ (append-nil _ ∙ ap (differences 0) (sym (next-skips ws 0 (c .next .result) (omega arith) e))) (c .before .before .pre))
 
 sub-put-number-at : tie.Need-sub-put-number-at Inv-loop μ-loop
 sub-put-number-at c = omega arith
@@ -58,10 +59,13 @@ add-next : tie.Need-add-next Inv-loop μ-loop
 add-next c = omega arith
 
 next-requires-2 : tie.Need-next-requires-2 Inv-loop μ-loop
-next-requires-2 c κs = omega arith
+next-requires-2 c κs = tt
 
 loop-less : tie.Need-loop-less Inv-loop μ-loop
-loop-less c = let n = c .next2 .ensures .0 in omega (arith, n)
+loop-less c =
+    let l = c .before .before .before .before .before .before .loop in
+    let ws = c .before .before .before .before .before .before .before .before .before .args .set .words in
+    omega (arith, next-ahead ws (l .slot + 1) (c .next2 .result) (omega arith) (c .next2 .ensures))
 
 loop-again : tie.Need-loop-again Inv-loop μ-loop
 loop-again c =
@@ -69,13 +73,13 @@ loop-again c =
     let l = c .before .before .before .before .before .before .loop in
     let ws = c .before .before .before .before .before .before .before .before .before .args .set .words in
     let w = put-at (next (c .before .before .before .before .before)) (c .before .before .before .put-number-at .ensures) in
-    (e .1, omega (arith, e .0), e .3, rw (select-skip (has ws) slotCount (l .slot + 1) (c .next2 .result) (e .0) (e .1) (e .2)) at w)
+    (e .0, omega (arith, next-ahead ws (l .slot + 1) (c .next2 .result) (omega arith) e), λ h. e .2 h .1, rw (next-skips ws (l .slot + 1) (c .next2 .result) (omega arith) e) at w)
 
 same-length : tie.Need-same-length Inv-loop μ-loop
 same-length c = same-len (c .before .loop .inv .3)
 
 returns : tie.Need-returns Inv-loop μ-loop
-unfolding differences select
+unfolding differences keep upTo
 returns c =
     let l = c .before .loop in
     let e : l .slot ≡ slotCount = omega arith in

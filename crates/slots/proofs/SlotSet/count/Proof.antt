@@ -6,9 +6,10 @@ use Prim.Native.Nat.{ℕ, _+_, _-_, _≤_, _<_}
 use native.Mathlib.Nat.{zero-add, add-zero}
 use native.Mathlib.Omega.{arith}
 use lib.ListN.{length}
+use Rattle.rules.specs.Basics.{keep, upTo}
 use Rattle.rules.specs.Constants.{slotCount}
 use Rattle.slots.specs.Set.{has, select, slotsOf}
-use Rattle.slots.proofs.Selecting.{select-next, select-skip, slots-le}
+use Rattle.slots.proofs.Selecting.{select-in, next-ahead, next-skips, slots-le}
 use Rattle.slots.proofs.SlotSet.count.Statement.{statement}
 use Rattle.slots.proofs.SlotSet.count.Tie as tie
 
@@ -32,18 +33,18 @@ rest c =
     let l = c .before .loop in
     let ws = c .before .before .before .args .self .words in
     let e : length (select (has ws) (l .s) (slotCount - l .s)) ≡ 1 + length (select (has ws) (l .s + 1) (slotCount - (l .s + 1))) =
-    rw (select-next (has ws) (l .s) slotCount (omega arith), l .inv .1 (omega arith)) (omega arith) in
+    ap length (select-in (has ws) (l .s) slotCount (omega arith) (l .inv .1 (omega arith))) ∙ omega arith in
     omega (arith, l .inv .2)
 
 next-requires : tie.Need-next-requires Inv-loop μ-loop
-next-requires c κs = omega arith
+next-requires c κs = tt
 
 loop-holds : tie.Need-loop-holds Inv-loop μ-loop
 unfolding slotsOf
 loop-holds c =
     let e = c .next .ensures in
     let ws = c .before .args .self .words in
-    (e .1, e .3, zero-add _ ∙ ap length (sym (select-skip (has ws) slotCount 0 (c .next .result) (e .0) (e .1) (e .2))))
+    (e .0, λ h. e .2 h .1, zero-add _ ∙ ap length (sym (next-skips ws 0 (c .next .result) (omega arith) e)))
 
 add-n : tie.Need-add-n Inv-loop μ-loop
 add-n c = omega (arith, rest c, slots-le (c .before .before .before .args .self .words))
@@ -52,21 +53,23 @@ add-next : tie.Need-add-next Inv-loop μ-loop
 add-next c = omega arith
 
 next-requires-2 : tie.Need-next-requires-2 Inv-loop μ-loop
-next-requires-2 c κs = omega arith
+next-requires-2 c κs = tt
 
 loop-less : tie.Need-loop-less Inv-loop μ-loop
-loop-less c = let n = c .next2 .ensures .0 in omega (arith, n)
+loop-less c =
+    let l = c .before .before .loop in
+    omega (arith, next-ahead (c .before .before .before .before .args .self .words) (l .s + 1) (c .next2 .result) (omega arith) (c .next2 .ensures))
 
 loop-again : tie.Need-loop-again Inv-loop μ-loop
 loop-again c =
     let e = c .next2 .ensures in
     let l = c .before .before .loop in
     let ws = c .before .before .before .before .args .self .words in
-    let k = ap length (select-skip (has ws) slotCount (l .s + 1) (c .next2 .result) (e .0) (e .1) (e .2)) in
-    (e .1, e .3, omega (arith, rest (c .before), k))
+    let k = ap length (next-skips ws (l .s + 1) (c .next2 .result) (omega arith) e) in
+    (e .0, λ h. e .2 h .1, omega (arith, rest (c .before), k))
 
 returns : tie.Need-returns Inv-loop μ-loop
-unfolding select
+unfolding keep upTo
 returns c =
     let l = c .before .loop in
     let e : l .s ≡ slotCount = omega arith in

@@ -1,14 +1,13 @@
 -- Each word of the result is the word without the bits of the other, whence the slots are those that the other has not (`wordwise`).
-use mathlib.Core.Path.{_≡_, refl, sym, ap, _∙_}
-use mathlib.Core.Bool.{Bool, true, false, not, _&&_, _||_}
-use Prim.Native.Nat.{ℕ, _+_, _-_, _*_, _/_, _%_, _^_, _≤_, _<_}
+use mathlib.Core.Path.{_≡_, refl}
+use mathlib.Core.Bool.{not, _&&_}
+use Prim.Native.Nat.{_-_, _^_, _≤_}
 use native.Mathlib.Omega.{arith}
 use lib.ListN.{length, getD}
 use lib.Bits.{bitAnd}
 use mir.Syntax.{w64}
 use mir.Val.{Fits}
-use Rattle.slots.specs.Set.{bit}
-use Rattle.slots.proofs.Bits.{bit-and, bit-not}
+use Rattle.slots.proofs.Bits.{bit-without}
 use Rattle.slots.proofs.Each.{Each, each-none, each-more}
 use Rattle.slots.proofs.Words.{wordwise}
 use borrow.Author.Needs.{needs}
@@ -54,15 +53,13 @@ loop-again c = let l = c .before .before .before .loop in
     (omega arith, each-more _ (l .inv .1) (omega (arith, l .inv .1 .len)) refl)
 
 returns : tie.Need-returns Inv-loop μ-loop
-returns c = let l = c .before .loop in
+returns c =
+    let l = c .before .loop in
     let a = c .before .before .args in
     let na : length (a .self .words) ≡ 16 = search needs in
     let nb : length (a .t2 .words) ≡ 16 = search needs in
-    wordwise (λ x y. x && not y) refl (a .self .words) (a .t2 .words) (l .r .words) na nb (l .inv .1 .len ∙ na)
-    (λ k h j m.
-    let f : Fits w64 (getD (a .t2 .words) k 0) = search needs in
-    ap (λ (w : ℕ). bit w j) (l .inv .1 .done k (omega arith)) ∙ bit-and (getD (a .self .words) k 0) ((2 ^ 64 - 1) - getD (a .t2 .words) k 0) j
-    ∙ ap (λ (y : Bool). bit (getD (a .self .words) k 0) j && y) (bit-not 64 (getD (a .t2 .words) k 0) j (f .fits) m))
+    wordwise (λ x y. bitAnd x ((2 ^ 64 - 1) - y)) (λ x y. x && not y) refl bit-without (a .self .words) (a .t2 .words) (l .r .words) na nb
+    (λ k. let f : Fits w64 (getD (a .t2 .words) k 0) = search needs in f .fits) (l .i) (omega arith) (l .inv .1)
 
 pub difference-spec : {M : Type 1} → statement M
 difference-spec =

@@ -6,6 +6,7 @@ use native.Mathlib.Omega.{arith}
 use mathlib.Core.Path.{_≡_, refl, sym, ap, _∙_}
 use mathlib.Core.Bool.{true, false}
 use lib.ListN.{length, getD}
+use Rattle.rules.specs.Constants.{slotCount}
 use Rattle.slots.specs.Set.{has}
 use Rattle.slots.proofs.Next.{word-none, word-at, word-before, word-on, none-join}
 use borrow.Author.Needs.{needs}
@@ -13,13 +14,13 @@ use Rattle.slots.proofs.SlotSet.next.Statement.{statement}
 use Rattle.slots.proofs.SlotSet.next.Tie as tie
 
 abbrev Inv-loop : tie.InvT-loop
-Inv-loop from a s₀ s = (from ≤ s) × (s ≤ 1024) × ((x : ℕ) → from ≤ x → x < s → has (a .words) x ≡ false)
+Inv-loop from a s₀ s = (from ≤ s) × ((x : ℕ) → from ≤ x → x < s → has (a .words) x ≡ false)
 
 abbrev μ-loop : tie.MeasureT-loop
-μ-loop from a s₀ s = 1024 - s
+μ-loop from a s₀ s = slotCount - s
 
 loop-holds : tie.Need-loop-holds Inv-loop μ-loop
-loop-holds c = (omega arith, omega arith, λ s p q. absurd (omega arith))
+loop-holds c = (omega arith, λ s p q. absurd (omega arith))
 
 cast-i : tie.Need-cast-i Inv-loop μ-loop
 cast-i c = omega arith
@@ -56,11 +57,10 @@ returns c =
     let ws = c .before .before .before .before .args .t1 .words in
     let f : Fits w64 (getD ws (l .s / 64) 0) = search needs in
     let w = word-at ws (l .s) (f .fits) (c .if1 .taken) in (
-      omega arith,
       omega (arith, w),
-      none-join (has ws) (c .before .before .before .before .args .from) (l .s) _ (l .inv .2) (word-before ws (l .s)
+      none-join (has ws) (c .before .before .before .before .args .from) (l .s) _ (l .inv .1) (word-before ws (l .s)
           (f .fits) (c .if1 .taken)),
-      λ q. word-on ws (l .s) (f .fits) (c .if1 .taken),
+      λ q. (omega arith, word-on ws (l .s) (f .fits) (c .if1 .taken)),
     )
 
 add-s : tie.Need-add-s Inv-loop μ-loop
@@ -77,13 +77,12 @@ loop-again c =
     let l = c .before .before .before .loop in
     let ws = c .before .before .before .before .args .t1 .words in (
       omega arith,
-      omega arith,
-      none-join (has ws) (c .before .before .before .before .args .from) (l .s) ((l .s / 64 + 1) * 64) (l .inv .2)
+      none-join (has ws) (c .before .before .before .before .args .from) (l .s) ((l .s / 64 + 1) * 64) (l .inv .1)
           (word-none ws (l .s) (c .if1 .left)),
     )
 
 returns-2 : tie.Need-returns-2 Inv-loop μ-loop
-returns-2 c = let i = c .before .loop .inv in (i .0, i .1, i .2, λ l. absurd (omega arith))
+returns-2 c = (omega arith, λ s p q. c .before .loop .inv .1 s p (omega arith), λ l. absurd (omega arith))
 
 pub next-spec : {M : Type 1} → statement M
 next-spec =

@@ -1,11 +1,12 @@
 -- Each word of the result is the two words or-ed, whence the slots are those of either (`wordwise`).
-use mathlib.Core.Path.{_≡_, refl, sym, ap, _∙_}
-use mathlib.Core.Bool.{Bool, true, false, not, _&&_, _||_}
-use Prim.Native.Nat.{ℕ, _+_, _-_, _*_, _/_, _%_, _^_, _≤_, _<_}
+use mathlib.Core.Path.{_≡_, refl}
+use mathlib.Core.Bool.{_||_}
+use Prim.Native.Nat.{_-_, _≤_}
 use native.Mathlib.Omega.{arith}
 use lib.ListN.{length, getD}
+use mir.Syntax.{w64}
+use mir.Val.{Fits}
 use lib.Bits.{bitOr}
-use Rattle.slots.specs.Set.{bit}
 use Rattle.slots.proofs.Bits.{bit-or}
 use Rattle.slots.proofs.Each.{Each, each-none, each-more}
 use Rattle.slots.proofs.Words.{wordwise}
@@ -52,12 +53,13 @@ loop-again c = let l = c .before .before .before .loop in
     (omega arith, each-more _ (l .inv .1) (omega (arith, l .inv .1 .len)) refl)
 
 returns : tie.Need-returns Inv-loop μ-loop
-returns c = let l = c .before .loop in
+returns c =
+    let l = c .before .loop in
     let a = c .before .before .args in
     let na : length (a .self .words) ≡ 16 = search needs in
     let nb : length (a .t2 .words) ≡ 16 = search needs in
-    wordwise _||_ refl (a .self .words) (a .t2 .words) (l .r .words) na nb (l .inv .1 .len ∙ na)
-    (λ k h j _. ap (λ (w : ℕ). bit w j) (l .inv .1 .done k (omega arith)) ∙ bit-or (getD (a .self .words) k 0) (getD (a .t2 .words) k 0) j)
+    wordwise bitOr _||_ refl (λ x y i _ _. bit-or x y i) (a .self .words) (a .t2 .words) (l .r .words) na nb
+    (λ k. let f : Fits w64 (getD (a .t2 .words) k 0) = search needs in f .fits) (l .i) (omega arith) (l .inv .1)
 
 pub union-spec : {M : Type 1} → statement M
 union-spec =

@@ -16,7 +16,7 @@ use Rattle.tables.proofs.changing.change_lists.Tie as tie
 
 abbrev Inv-loop : tie.InvT-loop
 Inv-loop what p first t₀ h₀ w₀ i₀ t h w i =
-    (i ≤ slotCount) × (viewLists t h w ≡ part (changeBy what p) i (viewLists t₀ h₀ w₀))
+    (i ≤ slotCount) × (viewLists t h w ≡ part (changeBy what (p .0)) i (viewLists t₀ h₀ w₀))
     × (length t ≡ slotCount) × (length h ≡ slotCount) × (length w ≡ slotCount)
 
 abbrev μ-loop : tie.MeasureT-loop
@@ -28,11 +28,11 @@ loop-holds c =
     let nt : length (a .target) ≡ slotCount = search needs in
     let nh : length (a .holder) ≡ slotCount = search needs in
     let nw : length (a .waiting) ≡ slotCount = search needs in
-    let f = changeBy (a .what) (a .p) in
+    let f = changeBy (a .what) (a .p .0) in
     let v = viewLists (a .target) (a .holder) (a .waiting) in
     let e = c .pre in (
       e .0,
-      on-to (a .p) f (change-near (a .p) (a .what)) v (a .target) (a .holder) (a .waiting) nt nh nw 0 (a .first) refl (omega arith) (e .0) (e .1),
+      on-to (a .p .0) f (change-near (a .p .0) (a .what)) v (a .target) (a .holder) (a .waiting) nt nh nw 0 (a .first) refl (omega arith) (e .0) (e .1),
       nt,
       nh,
       nw,
@@ -75,7 +75,7 @@ loop-again c =
     let nt : length (a .target) ≡ slotCount = search needs in
     let nh : length (a .holder) ≡ slotCount = search needs in
     let nw : length (a .waiting) ≡ slotCount = search needs in
-    let f = changeBy (a .what) (a .p) in
+    let f = changeBy (a .what) (a .p .0) in
     let v = viewLists (a .target) (a .holder) (a .waiting) in
     let lv = view-slots (a .target) (a .holder) (a .waiting) nt nh nw in
     let r = viewEntry (c .before .before .before .change-one .result) in
@@ -87,7 +87,7 @@ loop-again c =
     let mh : length (set (l .h) (l .i) (r .holder)) ≡ slotCount = simp length-set (l .inv .3) in
     let mw : length (set (l .w) (l .i) (r .waiting)) ≡ slotCount = simp length-set (l .inv .4) in (
       e .1,
-      on-to (a .p) f (change-near (a .p) (a .what)) v (set (l .t) (l .i) (r .target)) (set (l .h) (l .i) (r .holder)) (set (l .w) (l .i)
+      on-to (a .p .0) f (change-near (a .p .0) (a .what)) v (set (l .t) (l .i) (r .target)) (set (l .h) (l .i) (r .holder)) (set (l .w) (l .i)
           (r .waiting)) mt mh mw
           (l .i + 1) (c .next-near .result) s (e .0) (e .1) (e .2),
       mt,
@@ -104,7 +104,7 @@ returns c =
     let nh : length (a .holder) ≡ slotCount = search needs in
     let nw : length (a .waiting) ≡ slotCount = search needs in
     let lv = view-slots (a .target) (a .holder) (a .waiting) nt nh nw in
-    l .inv .1 ∙ part-all (changeBy (a .what) (a .p)) (l .i) (viewLists (a .target) (a .holder) (a .waiting)) (omega arith)
+    l .inv .1 ∙ part-all (changeBy (a .what) (a .p .0)) (l .i) (viewLists (a .target) (a .holder) (a .waiting)) (omega arith)
 
 pub change-lists-spec : {M : Type 1} → statement M
 change-lists-spec =

@@ -30,11 +30,11 @@ returns-2 c =
     let nt : length (t .target) ≡ slotCount = search needs in
     let nh : length (t .holder) ≡ slotCount = search needs in
     let nw : length (t .waiting) ≡ slotCount = search needs in
-    let f = changeBy (a .what) (a .p) in
+    let f = changeBy (a .what) (a .p .0) in
     let v = viewLists (t .target) (t .holder) (t .waiting) in
     let lv = view-slots (t .target) (t .holder) (t .waiting) nt nh nw in
     let n = c .before .next-near in
-    on-to (a .p) f (change-near (a .p) (a .what)) v (t .target) (t .holder) (t .waiting) nt nh nw 0 (n .result) refl (n .ensures .0) (n .ensures .1) (n .ensures .2)
+    on-to (a .p .0) f (change-near (a .p .0) (a .what)) v (t .target) (t .holder) (t .waiting) nt nh nw 0 (n .result) refl (n .ensures .0) (n .ensures .1) (n .ensures .2)
     ∙ part-all f (n .result) v (omega (arith, lv, c .if1 .left))
 
 pub change-tables-spec : {M : Type 1} → statement M

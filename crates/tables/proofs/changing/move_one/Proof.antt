@@ -15,7 +15,7 @@ returns : tie.Need-returns
 unfolding movedBy
 returns c =
     let a = c .before .before .before .args in
-    rw (c .before .if1 .taken) (c .revoke-one .ensures ∙ ap (revoked (a .p)) (c .before .before .free-one .ensures))
+    rw (c .before .if1 .taken) (c .revoke-one .ensures ∙ ap (revoked (a .p .0)) (c .before .before .free-one .ensures))
 
 claim-one-requires : tie.Need-claim-one-requires
 claim-one-requires c κs = tt
@@ -24,7 +24,7 @@ returns-2 : tie.Need-returns-2
 unfolding movedBy
 returns-2 c =
     let a = c .before .before .before .args in
-    rw (c .before .if1 .left) (c .claim-one .ensures ∙ ap (claimed (a .p)) (c .before .before .free-one .ensures))
+    rw (c .before .if1 .left) (c .claim-one .ensures ∙ ap (claimed (a .p .0)) (c .before .before .free-one .ensures))
 
 pub move-one-spec : {M : Type 1} → statement M
 move-one-spec =

@@ -10,16 +10,16 @@ use Rattle.tables.proofs.changing.revoke_one.Tie as tie
 returns : tie.Need-returns
 unfolding revoked stray assigned targeted
 returns c =
-    let h = eq-eqb _ _ (c .before .before .before .before .if1 .taken) in
+    let h = eq-eqb _ _ (c .before .before .before .before .before .if1 .taken) in
     let t = ne-eqb _ _ (c .if3 .taken) in
-    rw (h, t, c .before .before .if2 .taken)
+    rw (h, t, c .before .before .before .if2 .taken)
 
 returns-2 : tie.Need-returns-2
 unfolding revoked stray assigned targeted
 returns-2 c =
-    let h = eq-eqb _ _ (c .before .before .before .before .if1 .taken) in
+    let h = eq-eqb _ _ (c .before .before .before .before .before .if1 .taken) in
     let t = eq-eqb _ _ (c .if3 .left) in
-    rw (h, t, c .before .before .if2 .taken)
+    rw (h, t, c .before .before .before .if2 .taken)
 
 returns-3 : tie.Need-returns-3
 unfolding revoked stray assigned targeted

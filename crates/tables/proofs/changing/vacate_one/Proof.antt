@@ -10,11 +10,11 @@ without-requires c κs = tt
 
 returns : tie.Need-returns
 unfolding vacated
-returns c = let h = eq-eqb _ _ (c .if1 .taken) in simp (h, c .before .before .without .ensures)
+returns c = let h = eq-eqb _ _ (c .if1 .taken) in simp (h, c .before .before .before .without .ensures)
 
 returns-2 : tie.Need-returns-2
 unfolding vacated
-returns-2 c = let h = ne-eqb _ _ (c .if1 .left) in simp (h, c .before .before .without .ensures)
+returns-2 c = let h = ne-eqb _ _ (c .if1 .left) in simp (h, c .before .before .before .without .ensures)
 
 pub vacate-one-spec : {M : Type 1} → statement M
 vacate-one-spec = tie.close (tie.spec without-requires returns returns-2)

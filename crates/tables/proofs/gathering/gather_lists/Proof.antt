@@ -5,16 +5,14 @@ use Prim.Native.Nat.{ℕ, _+_, _-_, _≤_, _<_}
 use mathlib.Core.Path.{_≡_, refl, _∙_}
 use mathlib.Core.Bool.{true, false}
 use lib.ListN.{getD, length, length-set}
-use Rattle.tables.proofs.Filling.{Four, four-none, four-more, none-yet, filled}
-use Rattle.rules.specs.Group.{assigned, revoking, targeted}
-use Rattle.tables.specs.Places.{claimable}
+use Rattle.tables.proofs.Filling.{Four, four-none, four-more, four-all, none-yet}
 use Rattle.tables.proofs.gathering.gather_lists.Statement.{statement}
 use Rattle.tables.proofs.gathering.gather_lists.Tie as tie
 
 abbrev Inv-loop : tie.InvT-loop
 Inv-loop target holder waiting p assigned₀ revoking₀ targets₀ claimable₀ s₀ assigned revoking targets claimable s =
     (s ≤ slotCount) × (length assigned ≡ 16) × (length revoking ≡ 16) × (length targets ≡ 16) ×
-    (length claimable ≡ 16) × Four p target holder waiting assigned revoking targets claimable s
+    (length claimable ≡ 16) × Four (p .0) target holder waiting assigned revoking targets claimable s
 
 abbrev μ-loop : tie.MeasureT-loop
 μ-loop target holder waiting p assigned₀ revoking₀ targets₀ claimable₀ s₀ assigned revoking targets claimable s = slotCount - s
@@ -30,8 +28,8 @@ loop-holds c =
       refl,
       refl,
       refl,
-      four-none (a .p) (a .target .now) (a .holder .now) (a .waiting .now) _
-          (c .next-near .result) refl none-yet (c .next-near .ensures .2),
+      four-none (a .p .0) (a .target .now) (a .holder .now) (a .waiting .now) _
+          (c .next-near .result) none-yet (c .next-near .ensures .2),
     )
 
 element-copy-out-h : tie.Need-element-copy-out-h Inv-loop μ-loop
@@ -123,20 +121,18 @@ loop-less c = let n = c .next-near2 .ensures .0 in omega (arith, n)
 
 loop-again : tie.Need-loop-again Inv-loop μ-loop
 loop-again c =
-    let l = c .before .before .before .before .before .before .before .before .before .before .before .before .loop in
-    let a = c .before .before .before .before .before .before .before .before .before .before .before .before .before .before .args in (
+    let l = c .before .before .before .before .before .before .before .before .before .before .before .before .before .before .before .before .loop in
+    let a = c .before .before .before .before .before .before .before .before .before .before .before .before .before .before .before .before .before .before .args in (
       c .next-near2 .ensures .1,
       simp length-set (l .inv .1),
       simp length-set (l .inv .2),
       simp length-set (l .inv .3),
       simp length-set (l .inv .4),
-      four-more (a .p) (a .target .now) (a .holder .now) (a .waiting .now) (c .before .before .before .before .before .before .mark .result)
-          (c .before .before .before .before .mark2 .result) (c .before .before .before .mark3 .result) (c .before .mark4 .result)
-          (c .next-near2 .result) (l .inv .5) (omega arith)
-          (c .before .before .before .before .before .before .before .both .ensures)
-          (c .before .before .before .before .before .before .mark .ensures)
-          (c .before .before .before .before .before .both2 .ensures) (c .before .before .before .before .mark2 .ensures)
-          refl (c .before .before .before .mark3 .ensures)
+      four-more (a .p .0) (a .target .now) (a .holder .now) (a .waiting .now) (c .before .before .before .before .before .before .before .before .before .mark .result) (c .before .before .before .before .before .before .mark2 .result) (c .before .before .before .before .mark3 .result)
+          (c .before .mark4 .result) (c .next-near2 .result) (l .inv .5) (l .inv .1) (l .inv .2) (l .inv .3) (l .inv .4) (omega arith)
+          (c .before .before .before .before .before .before .before .before .before .before .both .ensures) (c .before .before .before .before .before .before .before .before .before .mark .ensures)
+          (c .before .before .before .before .before .before .before .both2 .ensures) (c .before .before .before .before .before .before .mark2 .ensures)
+          refl (c .before .before .before .before .mark3 .ensures)
           (c .before .before .both3 .ensures) (c .before .mark4 .ensures)
           (c .next-near2 .ensures .0) (c .next-near2 .ensures .2),
     )
@@ -144,19 +140,10 @@ loop-again c =
 returns : tie.Need-returns Inv-loop μ-loop
 returns c =
     let l = c .before .loop in
-    let pre = c .before .before .before .pre in
     let a = c .before .before .before .args in
+    let pre = c .before .before .before .pre in
     let end : l .s ≡ slotCount = omega arith in
-    let e = rw end at (l .inv .5) in
-    let ts = a .target .now in
-    let hs = a .holder .now in
-    let ws = a .waiting .now in
-    record {
-      assigned-are = filled (assigned (a .p)) ts hs ws (pre .0) (pre .1) (pre .2) (e .a-so);
-      revoking-are = filled (revoking (a .p)) ts hs ws (pre .0) (pre .1) (pre .2) (e .q-so);
-      target-are = filled (targeted (a .p)) ts hs ws (pre .0) (pre .1) (pre .2) (e .m-so);
-      claimable-are = filled (claimable (a .p)) ts hs ws (pre .0) (pre .1) (pre .2) (e .c-so);
-    }
+    four-all (a .p .0) (a .target .now) (a .holder .now) (a .waiting .now) (pre .0) (pre .1) (pre .2) (rw end at (l .inv .5))
 
 pub gather-lists-spec : {M : Type 1} → statement M
 gather-lists-spec =

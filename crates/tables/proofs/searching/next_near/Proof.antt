@@ -7,13 +7,12 @@ use mathlib.Core.Bool.{true, false}
 use lib.ListN.{getD, length}
 use lib.Dec.{eqb}
 use Rattle.tables.specs.Places.{near, NoneNear}
-use Rattle.tables.proofs.Nearness.{none-more}
-use Rattle.slots.proofs.Next.{none-join}
+use Rattle.tables.proofs.Nearness.{none-more, mark-none, mark-some}
 use Rattle.tables.proofs.searching.next_near.Statement.{statement}
 use Rattle.tables.proofs.searching.next_near.Tie as tie
 
 abbrev Inv-loop : tie.InvT-loop
-Inv-loop target holder p from i₀ i = (from ≤ i) × (i ≤ slotCount) × NoneNear p target holder from i
+Inv-loop target holder p from i₀ i = (from ≤ i) × (i ≤ slotCount) × NoneNear (p .0) target holder from i
 
 abbrev μ-loop : tie.MeasureT-loop
 μ-loop target holder p from i₀ i = slotCount - i
@@ -34,7 +33,9 @@ near-mark-requires : tie.Need-near-mark-requires Inv-loop μ-loop
 near-mark-requires c κs = tt
 
 returns : tie.Need-returns Inv-loop μ-loop
-returns c = c .before .before .before .before .before .loop .inv
+returns c =
+    let i = c .before .before .before .before .before .loop .inv in
+    (i .0, i .1, i .2, λ h. mark-some _ _ (c .before .near-mark .ensures) (c .if1 .taken))
 
 add-i : tie.Need-add-i Inv-loop μ-loop
 add-i c = omega arith
@@ -48,12 +49,12 @@ loop-again c =
     let a = c .before .before .before .before .before .before .before .args in (
       omega arith,
       omega arith,
-      none-more (λ j. near (a .p) (getD (a .target .now) j 0) (getD (a .holder .now) j 0)) (a .from) (l .i) (l .inv .2)
-          (c .before .near-mark .ensures (c .if1 .left)),
+      none-more (λ j. near (a .p .0) (getD (a .target .now) j 0) (getD (a .holder .now) j 0)) (a .from) (l .i) (l .inv .2)
+          (mark-none _ _ (c .before .near-mark .ensures) (c .if1 .left)),
     )
 
 returns-2 : tie.Need-returns-2 Inv-loop μ-loop
-returns-2 c = c .before .loop .inv
+returns-2 c = let i = c .before .loop .inv in (i .0, i .1, i .2, λ h. absurd (omega arith))
 
 pub next-near-spec : {M : Type 1} → statement M
 next-near-spec =

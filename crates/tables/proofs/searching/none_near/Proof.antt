@@ -7,12 +7,12 @@ use mathlib.Core.Bool.{true, false}
 use lib.ListN.{getD}
 use lib.Dec.{eqb}
 use Rattle.tables.specs.Places.{near, NoneNear}
-use Rattle.tables.proofs.Nearness.{none-more, or-nothing}
+use Rattle.tables.proofs.Nearness.{none-more, mark-none, or-nothing}
 use Rattle.tables.proofs.searching.none_near.Statement.{statement}
 use Rattle.tables.proofs.searching.none_near.Tie as tie
 
 abbrev Inv-loop : tie.InvT-loop
-Inv-loop target holder p from marks₀ i₀ marks i = (i ≤ 8) × (marks ≡ 0 → NoneNear p target holder from (from + i))
+Inv-loop target holder p from marks₀ i₀ marks i = (i ≤ 8) × (marks ≡ 0 → NoneNear (p .0) target holder from (from + i))
 
 abbrev μ-loop : tie.MeasureT-loop
 μ-loop target holder p from marks₀ i₀ marks i = 8 - i
@@ -44,8 +44,8 @@ loop-again c =
     let a = c .before .before .before .before .before .args in (
       omega arith,
       λ z s p q. let o = or-nothing (l .marks) (c .near-mark .result) z in
-          none-more (λ j. near (a .p) (getD (a .target .now) j 0) (getD (a .holder .now) j 0)) (a .from) (a .from + l .i) (l .inv .1 (o .0))
-          (c .near-mark .ensures (o .1)) s p (omega arith),
+          none-more (λ j. near (a .p .0) (getD (a .target .now) j 0) (getD (a .holder .now) j 0)) (a .from) (a .from + l .i) (l .inv .1 (o .0))
+          (mark-none _ _ (c .near-mark .ensures) (o .1)) s p (omega arith),
     )
 
 returns : tie.Need-returns Inv-loop μ-loop

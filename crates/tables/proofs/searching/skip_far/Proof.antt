@@ -7,13 +7,12 @@ use mathlib.Core.Bool.{true, false}
 use lib.ListN.{getD, length}
 use lib.Dec.{eqb}
 use Rattle.tables.specs.Places.{near, NoneNear}
-use Rattle.tables.proofs.Nearness.{none-more}
 use Rattle.slots.proofs.Next.{none-join}
 use Rattle.tables.proofs.searching.skip_far.Statement.{statement}
 use Rattle.tables.proofs.searching.skip_far.Tie as tie
 
 abbrev Inv-loop : tie.InvT-loop
-Inv-loop target holder p from i₀ i = (from ≤ i) × (i ≤ slotCount) × NoneNear p target holder from i
+Inv-loop target holder p from i₀ i = (from ≤ i) × (i ≤ slotCount) × NoneNear (p .0) target holder from i
 
 abbrev μ-loop : tie.MeasureT-loop
 μ-loop target holder p from i₀ i = slotCount - i
@@ -36,7 +35,7 @@ loop-again c =
     let a = c .before .before .before .before .args in (
       omega arith,
       omega arith,
-      none-join (λ j. near (a .p) (getD (a .target .now) j 0) (getD (a .holder .now) j 0)) (a .from) (l .i) (l .i + 8)
+      none-join (λ j. near (a .p .0) (getD (a .target .now) j 0) (getD (a .holder .now) j 0)) (a .from) (l .i) (l .i + 8)
           (l .inv .2) (c .before .none-near .ensures (c .if1 .taken)),
     )
 
