@@ -1,33 +1,25 @@
 -- Whether two sets have the same rising list. A slot of one that the other has not makes the lists differ; two sets of which each is part of the other
 -- have one list.
-use Prim.Native.Nat.{ℕ}
+use Prim.Native.Nat.{ℕ, _<_}
 use mathlib.Core.Path.{_≡_, refl, sym, ap, _∙_}
 use mathlib.Core.Bool.{Bool, true, false, true≢false}
 use mathlib.Core.List.{List}
 use lib.Dec.{eqb}
 use lib.ListN.{length}
 use Rattle.rules.specs.Basics.{any, same}
+use Rattle.rules.specs.Constants.{slotCount}
 use Rattle.rules.proofs.Lists.{same-refl, same-eq}
 use Rattle.slots.specs.Set.{has, slotsOf, TellsSubset}
 use Rattle.slots.proofs.Words.{in-range}
 use Rattle.slots.proofs.Selecting.{slots-are, slots-have}
 
-differ : (x y : List ℕ) → (x ≡ y → ⊥) → same x y ≡ false
-differ x y h = go (same x y) refl
+-- two sets that differ at a slot
+pub unlike : (a b : List ℕ) (s : ℕ) → s < slotCount → (has a s ≡ has b s → ⊥) → same (slotsOf a) (slotsOf b) ≡ false
+unlike a b s h d = go (same (slotsOf a) (slotsOf b)) refl
   where
-    go : (b : Bool) → same x y ≡ b → b ≡ false
-    go true e = absurd (h (same-eq x y e))
+    go : (x : Bool) → same (slotsOf a) (slotsOf b) ≡ x → x ≡ false
+    go true e = absurd (d (sym (slots-have a s h) ∙ ap (any (eqb s)) (same-eq (slotsOf a) (slotsOf b) e) ∙ slots-have b s h))
     go false e = refl
-
--- a slot of a that b has not
-pub unlike : (a b : List ℕ) (s : ℕ) → length a ≡ 16 → has a s ≡ true → has b s ≡ false → (same (slotsOf a) (slotsOf b) ≡ false) × (same (slotsOf b)
-    (slotsOf a) ≡ false)
-unlike a b s l p q = (differ _ _ apart, differ _ _ (λ (e : slotsOf b ≡ slotsOf a). apart (sym e)))
-  where
-    apart : slotsOf a ≡ slotsOf b → ⊥
-    apart e =
-        let h = in-range a s l p in
-        true≢false (sym p ∙ sym (slots-have a s h) ∙ ap (any (eqb s)) e ∙ slots-have b s h ∙ q)
 
 both-ways : (x y : Bool) → (x ≡ true → y ≡ true) → (y ≡ true → x ≡ true) → x ≡ y
 both-ways true y h k = sym (h refl)
@@ -44,9 +36,9 @@ alike a b h k =
 module _ (a b : List ℕ) (x : Bool) (tells : TellsSubset a b x) where
   -- a is not part of b
   pub first-differs : length a ≡ 16 → x ≡ false → false ≡ same (slotsOf a) (slotsOf b)
-  first-differs la z = let w = tells .1 z in sym (unlike a b (w .0) la (w .1) (w .2) .0)
+  first-differs la z = let w = tells .1 z in sym (unlike a b (w .0) (in-range a (w .0) la (w .1)) (λ e. true≢false (sym (w .1) ∙ e ∙ w .2)))
 
   -- a is part of b: then it is whether b is part of a
   pub second-decides : length b ≡ 16 → x ≡ true → (y : Bool) → TellsSubset b a y → y ≡ same (slotsOf a) (slotsOf b)
   second-decides lb z true u = sym (alike a b (tells .0 z) (u .0 refl))
-  second-decides lb z false u = let w = u .1 refl in sym (unlike b a (w .0) lb (w .1) (w .2) .1)
+  second-decides lb z false u = let w = u .1 refl in sym (unlike a b (w .0) (in-range b (w .0) lb (w .1)) (λ e. true≢false (sym (w .1) ∙ sym e ∙ w .2)))

@@ -5,5 +5,6 @@ pub mod Nearness
 pub mod Filling
 pub mod Listing
 pub mod Slotwise
+pub mod SetSteps
 pub mod Stepping
 pub mod Moving

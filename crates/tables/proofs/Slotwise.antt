@@ -40,13 +40,12 @@ module _ (p : ℕ) (n : eqb noPlace p ≡ false) (same : eqb p p ≡ true) where
         go true false w eh ew z = let e : (eqb (x .holder) p && x .waiting) ≡ false = ap (λ (b : Bool). b && x .waiting) eh in rw e (off e)
         go false h w eh ew z = off (z refl)
 
-    pub revoke-a : assigned p (revoked p (freeIf f p x)) ≡ (assigned p x && not (assigned p x && not (targeted p x)))
+    pub revoke-a : assigned p (revoked p (freeIf f p x)) ≡ (assigned p x && targeted p x)
     unfolding revoked stray assigned revoking targeted
-    revoke-a = by-cases (λ y. assigned p (revoked p y) ≡ (assigned p x && not (assigned p x && not (targeted p x)))) (λ eh ew. simp (eh, ew, n))
+    revoke-a = by-cases (λ y. assigned p (revoked p y) ≡ (assigned p x && targeted p x)) (λ eh ew. simp (eh, ew, n))
         (λ e. go (eqb (x .holder) p) (eqb (x .target) p) (x .waiting) refl refl refl)
       where
-        go : (h t w : Bool) → eqb (x .holder) p ≡ h → eqb (x .target) p ≡ t → x .waiting ≡ w → assigned p (revoked p x) ≡ (assigned p x && not
-            (assigned p x && not (targeted p x)))
+        go : (h t w : Bool) → eqb (x .holder) p ≡ h → eqb (x .target) p ≡ t → x .waiting ≡ w → assigned p (revoked p x) ≡ (assigned p x && targeted p x)
         go true true true eh et ew = simp (eh, et, ew)
         go true true false eh et ew = simp (eh, et, ew)
         go true false true eh et ew = simp (eh, et, ew)
@@ -65,24 +64,22 @@ module _ (p : ℕ) (n : eqb noPlace p ≡ false) (same : eqb p p ≡ true) where
         go true false false eh et ew e = simp (eh, et, ew)
         go false t w eh et ew e = simp eh
 
-    pub claim-a : assigned p (claimed p (freeIf f p x)) ≡ (assigned p x || (claimable p x || (revoking p x && not (revoking p x && not
-        (targeted p x)))))
+    pub claim-a : assigned p (claimed p (freeIf f p x)) ≡ (assigned p x || (claimable p x || (revoking p x && targeted p x)))
     unfolding claimed assigned revoking targeted claimable
-    claim-a = by-cases (λ y. assigned p (claimed p y) ≡ (assigned p x || (claimable p x || (revoking p x && not (revoking p x && not
-        (targeted p x))))))
+    claim-a = by-cases (λ y. assigned p (claimed p y) ≡ (assigned p x || (claimable p x || (revoking p x && targeted p x))))
         (λ eh ew. on (eqb (x .target) p) (eqb (x .holder) noPlace) refl refl eh ew) (λ e. off (eqb (x .holder) p) (eqb (x .target) p) (eqb
         (x .holder) noPlace) (x .waiting) refl refl refl refl e)
       where
         on : (t o : Bool) → eqb (x .target) p ≡ t → eqb (x .holder) noPlace ≡ o → eqb (x .holder) p ≡ true → x .waiting ≡ true
-            → assigned p (claimed p (record { target = x .target; holder = noPlace; waiting = false })) ≡ (assigned p x || (claimable p x ||
-            (revoking p x && not (revoking p x && not (targeted p x)))))
+            → assigned p (claimed p (record { target = x .target; holder = noPlace; waiting = false }))
+            ≡ (assigned p x || (claimable p x || (revoking p x && targeted p x)))
         on true true et eo eh ew = simp (et, eo, eh, ew, n, same)
         on true false et eo eh ew = simp (et, eo, eh, ew, n, same)
-        on false o et eo eh ew = simp (et, eh, ew, n, same)
+        on false o et eo eh ew = simp (et, eh, ew, n)
 
         off : (h t o w : Bool) → eqb (x .holder) p ≡ h → eqb (x .target) p ≡ t → eqb (x .holder) noPlace ≡ o → x .waiting ≡ w → (eqb
             (x .holder) p && x .waiting) ≡ false
-            → assigned p (claimed p x) ≡ (assigned p x || (claimable p x || (revoking p x && not (revoking p x && not (targeted p x)))))
+            → assigned p (claimed p x) ≡ (assigned p x || (claimable p x || (revoking p x && targeted p x)))
         off true t o true eh et eo ew e = absurd (true≢false (sym (ap₂ _&&_ eh ew) ∙ e))
         off true true true false eh et eo ew e = simp (eh, et, eo, ew, same)
         off true true false false eh et eo ew e = simp (eh, et, eo, ew)
@@ -97,7 +94,7 @@ module _ (p : ℕ) (n : eqb noPlace p ≡ false) (same : eqb p p ≡ true) where
         (x .holder) noPlace) refl refl e)
       where
         on : (t : Bool) → eqb (x .target) p ≡ t → revoking p (claimed p (record { target = x .target; holder = noPlace; waiting = false })) ≡ false
-        on true et = simp (et, n, same)
+        on true et = simp (et, same)
         on false et = simp (et, n)
 
         off : (t o : Bool) → eqb (x .target) p ≡ t → eqb (x .holder) noPlace ≡ o → (eqb (x .holder) p && x .waiting) ≡ false → revoking p

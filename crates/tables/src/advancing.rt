@@ -1,15 +1,9 @@
 // Steps 2 and 3 of an ordinary heartbeat, on the sets of a place.
 ghost use mathlib.Core.Path.{_≡_};
-ghost use mathlib.Core.Bool.{true, false, not, _&&_, _||_};
-ghost use mathlib.Core.List.{List};
-ghost use Prim.Native.Nat.{ℕ, _+_, _<_};
-ghost use lib.ListN.{length};
+ghost use mathlib.Core.Bool.{not, _&&_};
 ghost use Rattle.rules.specs.Basics.{any};
-ghost use Rattle.rules.specs.Constants.{slotCount, noPlace};
-ghost use Rattle.rules.specs.Group.{SlotState};
 ghost use Rattle.slots.specs.Set.{has};
-ghost use Rattle.tables.specs.Gathers.{Gathers};
-ghost use Rattle.tables.specs.Advances.{ownedOf, Advances};
+ghost use Rattle.tables.specs.Advances.{ownedOf, AdvancesSets};
 use crate::bools::both;
 use crate::bools::either;
 use crate::gathering::PlaceSets;
@@ -56,10 +50,9 @@ fn frees_all(revoking: SlotSet, none: bool, given: bool, owned: &[u16]) -> bool
 }
 
 impl PlaceSets {
-    // Steps 2 and 3 for a place below 255 whose sets these are. The list is looked at only if `given`.
+    // Steps 2 and 3 on the sets of a place. The list is looked at only if `given`.
     pub fn advance(self, given: bool, owned: &[u16]) -> Advance
-        ensures { λ r. ⌜ ((p : ℕ) (vs : List SlotState) → p < noPlace → length vs ≡ slotCount → Gathers p vs self
-            → Advances p vs (ownedOf given (now (owned .entry))) r) ⌝ }
+        ensures { λ r. ⌜ AdvancesSets self (ownedOf given (now (owned .entry))) r ⌝ }
     {
         let assigned = self.assigned;
         let revoking = self.revoking;

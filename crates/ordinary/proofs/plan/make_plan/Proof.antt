@@ -7,6 +7,7 @@ use Rattle.rules.specs.Constants.{slotCount}
 use Rattle.tables.specs.View.{viewTables}
 use Rattle.tables.specs.Advances.{ownedOf}
 use Rattle.tables.proofs.Viewing.{view-slots}
+use Rattle.tables.proofs.Stepping.{advances}
 use Rattle.tables.proofs.Moving.{written}
 use Rattle.ordinary.proofs.Stepping.{plan-is}
 use Rattle.ordinary.proofs.plan.make_plan.Statement.{statement}
@@ -20,6 +21,9 @@ slots-length c =
     let nh : length (t .holder) ≡ slotCount = search needs in
     let nw : length (t .waiting) ≡ slotCount = search needs in
     view-slots (t .target) (t .holder) (t .waiting) nt nh nw
+
+revoking-length : (c : tie.After-gather) → length (c .gather .result .revoking .words) ≡ 16
+revoking-length c = search needs
 
 gather-requires : tie.Need-gather-requires
 gather-requires c κs = tt
@@ -50,7 +54,8 @@ returns c =
     let len = slots-length x in
     let sets = c .before .before .before .before .before .before .before .before .before .before .before .before .gather in
     let step = c .before .before .before .before .before .before .before .before .before .before .before .advance in
-    let adv = step .ensures (a .p .0) vs (omega (arith, x .pre .3)) len (sets .ensures) in
+    let adv = advances (a .p .0) vs len (omega (arith, x .pre .3)) (sets .result) (revoking-length (c .before .before .before .before .before .before .before .before .before .before .before .before)) (sets .ensures)
+    (ownedOf (a .b .«has_list») (a .owned .now)) (step .result) (step .ensures) in
     plan-is (a .g) (a .b) (a .owned .now) (a .p .0) (a .seat) (sets .result) (step .result) (x .pre .0) (x .pre .1) (x .pre .2) len (sets .ensures) adv
     (c .before .before .before .before .before .before .before .before .before .before .next-member .result) (c .before .before .before .before .before .before .before .before .before .before .next-member .ensures) (c .follow .result)
     (written (a .p .0) vs (ownedOf (a .b .«has_list») (a .owned .now)) (step .result) adv (viewTables (c .follow .result)) (c .follow .ensures))
