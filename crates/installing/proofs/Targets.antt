@@ -4,11 +4,12 @@ use Prim.Native.Nat.{ℕ, suc, _+_, _≤_, _<_}
 use native.Mathlib.Nat.{suc-inj}
 use native.Mathlib.Omega.{arith}
 use mathlib.Core.Path.{_≡_, refl, sym, ap, ap₂, _∙_}
-use mathlib.Core.Bool.{Bool, false, not, _||_}
+use mathlib.Core.Bool.{Bool, false, not, _&&_, _||_}
 use mathlib.Core.List.{List, [], _∷_}
-use lib.Dec.{eqb}
+use lib.Dec.{eqb, ltb}
 use lib.ListN.{length, getD, length-map, List·getD-map}
 use borrow.Author.Count.{below-more}
+use borrow.Author.Tests.{lt-ltb}
 use Rattle.rules.specs.Basics.{if_then_else_, indices, same}
 use Rattle.rules.specs.Constants.{maxMembers, slotCount, noPlace}
 use Rattle.rules.specs.Group.{SlotState, freeSlot, targeted, setM}
@@ -18,7 +19,6 @@ use Rattle.slots.specs.Set.{has, slotsOf}
 use Rattle.slots.specs.declared.SlotSet.{SlotSet}
 use Rattle.rules.proofs.Lists.{or-false, same-refl}
 use Rattle.tables.specs.View.{viewLists}
-use Rattle.tables.proofs.Viewing.{getD-any}
 use Rattle.tables.proofs.Listing.{picks-list}
 use Rattle.events.proofs.Places.{eqb-swap}
 use Rattle.installing.specs.Targets.{unheldSlot, unheld, recordOf, Marked}
@@ -50,12 +50,12 @@ module _ (p : ℕ) where
   unfolding setM
   viewed ts hs ws k l = view-from ts hs ws 0 k l
 
-  pub gathered : (ts : List ℕ) → length ts ≡ slotCount → (a : SlotSet) → ((s : ℕ) → s < slotCount → has (a .words) s ≡ eqb (getD ts s 0) p)
+  pub gathered : (ts : List ℕ) → length ts ≡ slotCount → (a : SlotSet) → ((s : ℕ) → has (a .words) s ≡ (ltb s slotCount && eqb (getD ts s noPlace) p))
       → slotsOf (a .words) ≡ setM p (unheld ts)
   unfolding setM unheld freeSlot targeted
   gathered ts l a is =
       picks-list (targeted p) (unheld ts) (length-map ts unheldSlot ∙ l) a
-      (λ s h. is s h ∙ ap (λ (t : ℕ). eqb t p) (getD-any ts s 0 noPlace (omega (arith, l))) ∙ ap (λ (x : SlotState). eqb (x .target) p) (sym (List·getD-map unheldSlot ts s noPlace)))
+      (λ s h. is s ∙ ap (λ (b : Bool). b && eqb (getD ts s noPlace) p) (lt-ltb s slotCount h) ∙ ap (λ (x : SlotState). eqb (x .target) p) (sym (List·getD-map unheldSlot ts s noPlace)))
 
 -- ---- record 7 of a place
 

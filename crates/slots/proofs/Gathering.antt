@@ -1,6 +1,6 @@
 -- A loop over the slots that gathers those that a test f picks: below i the set g is what f says, from i on it is empty.
-use mathlib.Core.Path.{_≡_, refl, sym, ap, _∙_}
-use mathlib.Core.Bool.{Bool, true, false, _&&_, _||_, or-false}
+use mathlib.Core.Path.{_≡_, refl, sym, _∙_}
+use mathlib.Core.Bool.{Bool, false, _&&_, _||_, or-false}
 use Prim.Native.Nat.{ℕ, _+_, _≤_, _<_}
 use native.Mathlib.Decide.{decLt}
 use native.Mathlib.Omega.{arith}
@@ -36,3 +36,11 @@ gather-skip {f} {g} {i} j e h z = record { done = λ s q. go s q (decLt s i); re
     go : (s : ℕ) → s < j → Dec (s < i) → g s ≡ f s
     go s q (yes l) = e .done s l
     go s q (no r) = e .rest s (omega arith) ∙ sym (z s (omega arith) q)
+
+-- nothing is left to pick
+pub gather-all : {f g : ℕ → Bool} {i : ℕ} → Gather f g i → ((s : ℕ) → i ≤ s → f s ≡ false) → (s : ℕ) → g s ≡ f s
+gather-all {f} {g} {i} e z s = go (decLt s i)
+  where
+    go : Dec (s < i) → g s ≡ f s
+    go (yes l) = e .done s l
+    go (no r) = e .rest s (omega arith) ∙ sym (z s (omega arith))

@@ -1,14 +1,15 @@
 // Sets of slots, kept as words: slot s is bit s % 64 of word s / 64. What each function does is said slot by slot, by `has`, or of the rising list of
 // the slots, `slotsOf`.
 ghost use mathlib.Core.Path.{_≡_};
-ghost use mathlib.Core.Bool.{Bool, true, false, not, _&&_, _||_};
+ghost use mathlib.Core.Bool.{false, not, _&&_, _||_};
 ghost use Prim.Native.Nat.{ℕ, _≤_, _<_};
 ghost use lib.ListN.{length, getD};
-ghost use lib.Dec.{eqb};
+ghost use lib.Dec.{eqb, ltb};
 ghost use Rattle.rules.specs.Basics.{same};
-ghost use Rattle.rules.specs.Constants.{slotCount};
+ghost use Rattle.rules.specs.Constants.{slotCount, noPlace};
 ghost use Rattle.numbers.specs.Buffer.{Wrote};
 ghost use Rattle.slots.specs.Set.{has, hasWith, slotsOf, TellsEmpty, TellsSubset, NextFrom};
+use rules::NO_PLACE;
 use rules::SLOT_END;
 use rules::SLOTS;
 use rules::Slot;
@@ -155,17 +156,27 @@ pub fn list_slots(out: &mut [u16], a: SlotSet) -> usize
     at
 }
 
+// The entry that a table has for a slot; 255 past its end.
+pub fn entry_at(table: &[u8], slot: Slot) -> u8
+    ensures { λ r. ⌜ r ≡ getD (now (table .entry)) (slot .0) noPlace ⌝ }
+{
+    let i = slot.0 as usize;
+    if i < table.len() {
+        return table[i];
+    }
+    NO_PLACE
+}
+
 // The slots at which a table has a value.
 pub fn gather(table: &[u8; SLOTS], value: u8) -> SlotSet
-    requires { ⌜ length (now table) ≡ slotCount ⌝ }
-    ensures { λ r. ⌜ ((s : ℕ) → s < slotCount → has (r .words) s ≡ eqb (getD (now (table .entry)) s 0) value) ⌝ }
+    ensures { λ r. ⌜ ((s : ℕ) → has (r .words) s ≡ (ltb s slotCount && eqb (getD (now (table .entry)) s noPlace) value)) ⌝ }
 {
     let mut r = SlotSet::empty();
     let mut s: u16 = 0;
     while s < SLOT_END {
         let here = s;
         s += 1;
-        if table[here as usize] == value {
+        if entry_at(table, Slot(here)) == value {
             r = r.insert(Slot(here));
         }
     }

@@ -1,6 +1,6 @@
 -- A change that leaves alone every slot that is not near the place, made from one near slot to the next (`on-to`); and steps 2 and 3 as one such change
 -- of each slot (`advanced-moved`), where A or P changed.
-use Prim.Native.Nat.{ℕ, _+_, _≤_, _<_}
+use Prim.Native.Nat.{ℕ, _≤_, _<_}
 use native.Mathlib.Omega.{arith}
 use mathlib.Core.Path.{_≡_, refl, sym, ap, _∙_}
 use mathlib.Core.Bool.{Bool, true, false, not, _&&_}

@@ -1,6 +1,6 @@
 -- A slot that is not near a place is in none of its sets; and the slots passed by a search that are not near it.
 use mathlib.Core.Path.{_≡_, refl, ap, _∙_}
-use mathlib.Core.Bool.{Bool, true, false, not, _&&_, _||_}
+use mathlib.Core.Bool.{Bool, true, false, not, _&&_}
 use Prim.Native.Nat.{ℕ, _+_, _≤_, _<_}
 use native.Mathlib.Decide.{ℕ-discrete}
 use native.Mathlib.Omega.{arith}
@@ -8,7 +8,7 @@ use lib.Dec.{eqb}
 use lib.Bits.{bitOr, or-add-and, and-le-l, and-le-r}
 use Rattle.rules.specs.Basics.{if_then_else_}
 use Rattle.rules.specs.Constants.{noPlace}
-use Rattle.rules.specs.Group.{SlotState, assigned, revoking, targeted}
+use Rattle.rules.specs.Group.{assigned, revoking, targeted}
 use Rattle.rules.proofs.Lists.{or-false}
 use Rattle.tables.specs.Places.{near, claimable}
 

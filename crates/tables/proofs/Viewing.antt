@@ -1,5 +1,5 @@
 -- The three tables seen as one list of slots: its length, the slot at an index, a slot stored, another target.
-use Prim.Native.Nat.{ℕ, zero, suc, _≤_, _<_}
+use Prim.Native.Nat.{ℕ, zero, suc, _<_}
 use native.Mathlib.Nat.{le-of-suc-le-suc, not-suc-le-zero, suc-inj}
 use native.Mathlib.Decide.{decLt}
 use native.Mathlib.Omega.{arith}
@@ -10,6 +10,7 @@ use lib.ListN.{length, getD, set, List·getD-eq-default}
 use Rattle.rules.specs.Constants.{slotCount, noPlace}
 use Rattle.rules.specs.Group.{SlotState, freeSlot}
 use Rattle.rules.specs.Effects.{retargeted}
+use Rattle.slots.proofs.Each.{getD-any}
 use Rattle.tables.specs.View.{viewLists}
 
 pub view-length : (ts hs : List ℕ) (ws : List Bool) → length hs ≡ length ts → length ws ≡ length ts → length (viewLists ts hs ws) ≡ length ts
@@ -46,12 +47,6 @@ view-retargeted (x ∷ es) (t ∷ ts) [] ws e = refl
 view-retargeted (x ∷ es) (t ∷ ts) (h ∷ hs) [] e = refl
 view-retargeted (x ∷ es) (t ∷ ts) (h ∷ hs) (w ∷ ws) e =
     ap (λ (l : List SlotState). record { target = x; holder = h; waiting = w } ∷ l) (view-retargeted es ts hs ws (omega arith))
-
--- an element that is there is the same for every default
-pub getD-any : (l : List ℕ) (i d e : ℕ) → i < length l → getD l i d ≡ getD l i e
-getD-any [] i d e h = absurd (not-suc-le-zero h)
-getD-any (x ∷ l) zero d e h = refl
-getD-any (x ∷ l) (suc i) d e h = getD-any l i d e (le-of-suc-le-suc h)
 
 module _ (ts hs : List ℕ) (ws : List Bool) (nt : length ts ≡ slotCount) (nh : length hs ≡ slotCount) (nw : length ws ≡ slotCount) where
   pub view-slots : length (viewLists ts hs ws) ≡ slotCount

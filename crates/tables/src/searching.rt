@@ -1,9 +1,9 @@
 // The search for the slots that concern a place: those that it holds and those of its target. It steps over eight slots at a time by a test without
 // branches, so that a pass over the tables costs little where few slots are the place's.
 ghost use mathlib.Core.Path.{_≡_};
-ghost use mathlib.Core.Bool.{true, false};
-ghost use Prim.Native.Nat.{ℕ, _+_, _≤_, _<_};
-ghost use lib.ListN.{length, getD};
+ghost use mathlib.Core.Bool.{true};
+ghost use Prim.Native.Nat.{_+_, _≤_, _<_};
+ghost use lib.ListN.{length};
 ghost use Rattle.rules.specs.Basics.{if_then_else_};
 ghost use Rattle.rules.specs.Constants.{slotCount};
 ghost use Rattle.tables.specs.Places.{near, NoneNear, NextNear};

@@ -1,40 +1,26 @@
 // Tests of a place on the tables.
 ghost use mathlib.Core.Path.{_≡_};
 ghost use mathlib.Core.Bool.{true, false, not};
-ghost use Prim.Native.Nat.{ℕ, _+_, _<_};
 ghost use lib.Dec.{eqb};
-ghost use lib.ListN.{length, getD};
+ghost use lib.ListN.{getD};
 ghost use Rattle.rules.specs.Basics.{any};
-ghost use Rattle.rules.specs.Constants.{slotCount, noPlace};
+ghost use Rattle.rules.specs.Constants.{noPlace};
 ghost use Rattle.rules.specs.Group.{targeted};
 ghost use Rattle.tables.specs.View.{viewTables};
 ghost use Rattle.tables.specs.Places.{holderNot};
 use crate::Tables;
-use rules::NO_PLACE;
 use rules::Place;
 use rules::SLOTS;
 use rules::Slot;
 
-// The holder of a slot; 255 for a number of 1024 or more.
-fn holder_at(holder: &[u8; SLOTS], slot: Slot) -> u8
-    requires { ⌜ length (now holder) ≡ slotCount ⌝ }
-    ensures { λ r. ⌜ r ≡ getD (now (holder .entry)) (slot .0) noPlace ⌝ }
-{
-    let i = slot.0 as usize;
-    if i < SLOTS {
-        return holder[i];
-    }
-    NO_PLACE
-}
-
+// Whether some slot of the list has another holder than p; numbers of 1024 and more have none.
 fn any_unheld<'a>(holder: &'a [u8; SLOTS], list: &'a [u16], p: Place) -> bool
-    requires { ⌜ length (now holder) ≡ slotCount ⌝ }
     ensures { λ r. ⌜ r ≡ any (λ s. not (eqb (getD (now (holder .entry)) s noPlace) (p .0))) (now (list .entry)) ⌝ }
 {
     let mut i: usize = 0;
     while i < list.len() {
         let s = list[i];
-        if holder_at(holder, Slot(s)) != p.0 {
+        if slots::entry_at(holder, Slot(s)) != p.0 {
             return true;
         }
         i += 1;

@@ -1,10 +1,9 @@
 -- The slots from s on are still to be written; s is one of them, or the end. Those between one slot and the next are stepped over.
-use mathlib.Core.Path.{_≡_, refl, sym, ap, _∙_}
-use mathlib.Core.Bool.{Bool, true, false}
-use mathlib.Core.List.{List, [], _∷_, append-nil}
-use Prim.Native.Nat.{ℕ, _+_, _-_, _≤_, _<_}
+use mathlib.Core.Path.{_≡_, refl, sym, _∙_}
+use mathlib.Core.Bool.{true}
+use mathlib.Core.List.{[], _∷_, append-nil}
+use Prim.Native.Nat.{_+_, _-_, _≤_, _<_}
 use native.Mathlib.Omega.{arith}
-use lib.ListN.{length}
 use Rattle.rules.specs.Basics.{keep, upTo}
 use Rattle.rules.specs.Constants.{slotCount}
 use Rattle.slots.specs.Set.{has, select, slotsOf}

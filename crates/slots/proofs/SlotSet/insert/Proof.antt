@@ -1,6 +1,6 @@
 -- One word is stored with the slot's bit put in (`has-mark`); a number that is no slot puts in nothing.
 use mathlib.Core.Path.{_≡_}
-use Prim.Native.Nat.{_%_, _<_}
+use Prim.Native.Nat.{_%_}
 use native.Mathlib.Omega.{arith}
 use lib.Dec.{eqb, ltb}
 use lib.ListN.{length}

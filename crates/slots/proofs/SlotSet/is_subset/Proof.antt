@@ -1,5 +1,5 @@
 -- The set is part of the other where nothing is left of it without the other.
-use mathlib.Core.Path.{_≡_, sym, _∙_}
+use mathlib.Core.Path.{sym, _∙_}
 use Rattle.slots.proofs.Words.{less-none, less-some}
 use Rattle.slots.proofs.SlotSet.is_subset.Statement.{statement}
 use Rattle.slots.proofs.SlotSet.is_subset.Tie as tie

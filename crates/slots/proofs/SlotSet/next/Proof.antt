@@ -1,11 +1,11 @@
 -- No slot from `from` up to s is in the set. Where something is left of the word from s on, its lowest bit is the next slot; else s goes to the next word.
 use mir.Syntax.{w64}
 use mir.Val.{Fits}
-use Prim.Native.Nat.{ℕ, suc, _+_, _-_, _*_, _/_, _%_, _^_, _≤_, _<_}
+use Prim.Native.Nat.{ℕ, _+_, _-_, _*_, _/_, _≤_, _<_}
 use native.Mathlib.Omega.{arith}
-use mathlib.Core.Path.{_≡_, refl, sym, ap, _∙_}
-use mathlib.Core.Bool.{true, false}
-use lib.ListN.{length, getD}
+use mathlib.Core.Path.{_≡_}
+use mathlib.Core.Bool.{false}
+use lib.ListN.{getD}
 use Rattle.rules.specs.Constants.{slotCount}
 use Rattle.slots.specs.Set.{has}
 use Rattle.slots.proofs.Next.{word-none, word-at, word-before, word-on, none-join}

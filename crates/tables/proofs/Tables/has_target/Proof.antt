@@ -1,9 +1,9 @@
 -- Some slot passes the test where the set of those that do is not empty.
-use mathlib.Core.Path.{_≡_, refl, sym, ap, ap₂, _∙_}
+use mathlib.Core.Path.{_≡_, sym}
 use lib.ListN.{length}
 use Rattle.rules.specs.Constants.{slotCount}
 use Rattle.rules.specs.Group.{targeted}
-use Rattle.tables.specs.View.{viewTables, viewLists}
+use Rattle.tables.specs.View.{viewTables}
 use Rattle.tables.proofs.Viewing.{view-slots}
 use Rattle.tables.proofs.Listing.{picks-any}
 use borrow.Author.Needs.{needs}

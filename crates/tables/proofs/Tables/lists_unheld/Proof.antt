@@ -1,11 +1,11 @@
 -- The holder of a slot in the tables is the holder of the slot that they stand for.
-use mathlib.Core.Path.{_≡_, refl, sym, ap, ap₂, _∙_}
-use mathlib.Core.Bool.{Bool, not}
+use mathlib.Core.Path.{_≡_, sym, ap, _∙_}
+use mathlib.Core.Bool.{not}
 use Prim.Native.Nat.{ℕ}
 use lib.Dec.{eqb}
 use lib.ListN.{length, getD}
 use Rattle.rules.specs.Constants.{slotCount, noPlace}
-use Rattle.tables.specs.View.{viewTables, viewLists}
+use Rattle.tables.specs.View.{viewTables}
 use Rattle.tables.specs.Places.{holderNot}
 use Rattle.tables.proofs.Lists.{any-ext}
 use Rattle.tables.proofs.Viewing.{view-holder}
@@ -14,7 +14,7 @@ use Rattle.tables.proofs.Tables.lists_unheld.Statement.{statement}
 use Rattle.tables.proofs.Tables.lists_unheld.Tie as tie
 
 any-unheld-requires : tie.Need-any-unheld-requires
-any-unheld-requires c κs = search needs
+any-unheld-requires c κs = tt
 
 returns : tie.Need-returns
 unfolding viewTables

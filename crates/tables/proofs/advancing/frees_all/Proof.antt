@@ -1,6 +1,6 @@
 -- By the tests, in their order.
-use mathlib.Core.Path.{_≡_, refl, sym, ap, ap₂, _∙_}
-use mathlib.Core.Bool.{Bool, true, false, not, _&&_}
+use mathlib.Core.Path.{sym, ap, _∙_}
+use mathlib.Core.Bool.{not}
 use borrow.Author.Needs.{needs}
 use Rattle.tables.proofs.advancing.frees_all.Statement.{statement}
 use Rattle.tables.proofs.advancing.frees_all.Tie as tie

@@ -1,7 +1,7 @@
 -- What is left of the list decides (`Open`).
 use native.Mathlib.Omega.{arith}
 use Prim.Native.Nat.{_-_}
-use mathlib.Core.Path.{_≡_, sym, _∙_}
+use mathlib.Core.Path.{sym, _∙_}
 use lib.ListN.{length}
 use Rattle.slots.specs.Set.{has}
 use Rattle.tables.proofs.Lists.{Open, open-begin, open-found, open-more, open-end}

@@ -1,10 +1,11 @@
 -- Below i each slot is changed; from one near slot to the next, the change leaves the slots alone.
-use mathlib.Core.Path.{_≡_, refl, sym, ap, ap₂, _∙_}
-use Prim.Native.Nat.{ℕ, _+_, _-_, _≤_, _<_}
+use mathlib.Core.Path.{_≡_, refl, sym, ap, _∙_}
+use mathlib.Core.List.{List}
+use Prim.Native.Nat.{_+_, _-_, _≤_}
 use native.Mathlib.Omega.{arith}
 use lib.ListN.{length, length-set, set}
 use Rattle.rules.specs.Constants.{slotCount}
-use Rattle.rules.specs.Group.{freeSlot}
+use Rattle.rules.specs.Group.{SlotState, freeSlot}
 use Rattle.tables.specs.View.{viewTables, viewLists}
 use Rattle.tables.specs.Changes.{viewEntry, changeBy}
 use Rattle.tables.proofs.Viewing.{view-slots, view-slot, view-set}
@@ -22,17 +23,26 @@ Inv-loop what p first t₀ h₀ w₀ i₀ t h w i =
 abbrev μ-loop : tie.MeasureT-loop
 μ-loop what p first t₀ h₀ w₀ i₀ t h w i = slotCount - i
 
+-- the slots that the tables stand for at first, and the change of each
+abbrev slots : tie.Start Inv-loop μ-loop → List SlotState
+slots c = let a = c .args in viewLists (a .target) (a .holder) (a .waiting)
+
+abbrev change : tie.Start Inv-loop μ-loop → SlotState → SlotState
+change c = changeBy (c .args .what) (c .args .p .0)
+
+slots-length : (c : tie.Start Inv-loop μ-loop) → length (slots c) ≡ slotCount
+slots-length c = view-slots (c .args .target) (c .args .holder) (c .args .waiting) (search needs) (search needs) (search needs)
+
 loop-holds : tie.Need-loop-holds Inv-loop μ-loop
 loop-holds c =
     let a = c .args in
     let nt : length (a .target) ≡ slotCount = search needs in
     let nh : length (a .holder) ≡ slotCount = search needs in
     let nw : length (a .waiting) ≡ slotCount = search needs in
-    let f = changeBy (a .what) (a .p .0) in
-    let v = viewLists (a .target) (a .holder) (a .waiting) in
     let e = c .pre in (
       e .0,
-      on-to (a .p .0) f (change-near (a .p .0) (a .what)) v (a .target) (a .holder) (a .waiting) nt nh nw 0 (a .first) refl (omega arith) (e .0) (e .1),
+      on-to (a .p .0) (change c) (change-near (a .p .0) (a .what)) (slots c) (a .target) (a .holder) (a .waiting) nt nh nw 0 (a .first) refl (omega arith)
+          (e .0) (e .1),
       nt,
       nh,
       nw,
@@ -70,41 +80,32 @@ loop-less c = let n = c .next-near .ensures .0 in omega (arith, n)
 
 loop-again : tie.Need-loop-again Inv-loop μ-loop
 loop-again c =
-    let a = c .before .before .before .before .before .before .args in
+    let x = c .before .before .before .before .before .before in
+    let a = x .args in
     let l = c .before .before .before .before .before .loop in
-    let nt : length (a .target) ≡ slotCount = search needs in
-    let nh : length (a .holder) ≡ slotCount = search needs in
-    let nw : length (a .waiting) ≡ slotCount = search needs in
-    let f = changeBy (a .what) (a .p .0) in
-    let v = viewLists (a .target) (a .holder) (a .waiting) in
-    let lv = view-slots (a .target) (a .holder) (a .waiting) nt nh nw in
-    let r = viewEntry (c .before .before .before .change-one .result) in
-    let q = c .before .before .before .change-one .ensures ∙ ap f (sym (view-slot (l .t) (l .h) (l .w) (l .inv .2) (l .inv .3) (l .inv .4) (l .i)
-    (omega arith) freeSlot)) in
-    let s = view-set (l .t) (l .h) (l .w) (l .i) r ∙ part-more f v (viewLists (l .t) (l .h) (l .w)) (l .i) r freeSlot (l .inv .1) (omega arith) q in
+    let k = c .before .before .before .change-one in
+    let r = viewEntry (k .result) in
     let e = c .next-near .ensures in
-    let mt : length (set (l .t) (l .i) (r .target)) ≡ slotCount = simp length-set (l .inv .2) in
-    let mh : length (set (l .h) (l .i) (r .holder)) ≡ slotCount = simp length-set (l .inv .3) in
-    let mw : length (set (l .w) (l .i) (r .waiting)) ≡ slotCount = simp length-set (l .inv .4) in (
+    let q = k .ensures ∙ ap (change x) (sym (view-slot (l .t) (l .h) (l .w) (l .inv .2) (l .inv .3) (l .inv .4) (l .i) (omega arith) freeSlot)) in
+    let s = view-set (l .t) (l .h) (l .w) (l .i) r
+    ∙ part-more (change x) (slots x) (viewLists (l .t) (l .h) (l .w)) (l .i) r freeSlot (l .inv .1) (omega (arith, slots-length x)) q in
+    let nt : length (set (l .t) (l .i) (r .target)) ≡ slotCount = simp length-set (l .inv .2) in
+    let nh : length (set (l .h) (l .i) (r .holder)) ≡ slotCount = simp length-set (l .inv .3) in
+    let nw : length (set (l .w) (l .i) (r .waiting)) ≡ slotCount = simp length-set (l .inv .4) in (
       e .1,
-      on-to (a .p .0) f (change-near (a .p .0) (a .what)) v (set (l .t) (l .i) (r .target)) (set (l .h) (l .i) (r .holder)) (set (l .w) (l .i)
-          (r .waiting)) mt mh mw
-          (l .i + 1) (c .next-near .result) s (e .0) (e .1) (e .2),
-      mt,
-      mh,
-      mw,
+      on-to (a .p .0) (change x) (change-near (a .p .0) (a .what)) (slots x) (set (l .t) (l .i) (r .target)) (set (l .h) (l .i) (r .holder))
+          (set (l .w) (l .i) (r .waiting)) nt nh nw (l .i + 1) (c .next-near .result) s (e .0) (e .1) (e .2),
+      nt,
+      nh,
+      nw,
     )
 
 returns : tie.Need-returns Inv-loop μ-loop
 unfolding viewTables
 returns c =
-    let a = c .before .before .args in
+    let x = c .before .before in
     let l = c .before .loop in
-    let nt : length (a .target) ≡ slotCount = search needs in
-    let nh : length (a .holder) ≡ slotCount = search needs in
-    let nw : length (a .waiting) ≡ slotCount = search needs in
-    let lv = view-slots (a .target) (a .holder) (a .waiting) nt nh nw in
-    l .inv .1 ∙ part-all (changeBy (a .what) (a .p .0)) (l .i) (viewLists (a .target) (a .holder) (a .waiting)) (omega arith)
+    l .inv .1 ∙ part-all (change x) (l .i) (slots x) (omega (arith, slots-length x))
 
 pub change-lists-spec : {M : Type 1} → statement M
 change-lists-spec =

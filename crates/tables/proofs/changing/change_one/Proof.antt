@@ -1,5 +1,4 @@
 -- By the change.
-use mathlib.Core.Path.{_≡_, refl, sym, ap, ap₂, _∙_}
 use borrow.Author.Needs.{needs}
 use Rattle.tables.proofs.changing.change_one.Statement.{statement}
 use Rattle.tables.proofs.changing.change_one.Tie as tie

@@ -1,7 +1,5 @@
 -- By the tests.
-use mathlib.Core.Path.{_≡_, refl, sym, ap, ap₂, _∙_}
-use borrow.Author.Tests.{eq-eqb, ne-eqb, not-true, not-false}
-use mathlib.Core.Bool.{Bool, true, false, not, _&&_}
+use borrow.Author.Tests.{eq-eqb, ne-eqb}
 use Rattle.rules.specs.Group.{targeted}
 use Rattle.rules.specs.Effects.{claimed}
 use Rattle.tables.proofs.changing.claim_one.Statement.{statement}

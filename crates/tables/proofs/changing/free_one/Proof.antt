@@ -1,7 +1,7 @@
 -- By the tests, which together are those of `revoking`.
-use mathlib.Core.Path.{_≡_, refl, sym, ap, ap₂, _∙_}
+use mathlib.Core.Path.{ap₂}
 use mathlib.Core.Bool.{_&&_}
-use borrow.Author.Tests.{eq-eqb, ne-eqb, not-true, not-false}
+use borrow.Author.Tests.{eq-eqb, ne-eqb}
 use Rattle.rules.specs.Group.{revoking}
 use Rattle.rules.specs.Effects.{freed}
 use Rattle.tables.proofs.changing.free_one.Statement.{statement}

@@ -1,5 +1,5 @@
 -- Freed or not, then revoked or claimed.
-use mathlib.Core.Path.{_≡_, refl, sym, ap, ap₂, _∙_}
+use mathlib.Core.Path.{ap, _∙_}
 use Rattle.rules.specs.Effects.{revoked, claimed}
 use Rattle.tables.specs.Changes.{movedBy}
 use Rattle.tables.proofs.changing.move_one.Statement.{statement}

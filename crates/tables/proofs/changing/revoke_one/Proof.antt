@@ -1,7 +1,5 @@
 -- By the tests, which together are those of `stray`.
-use mathlib.Core.Path.{_≡_, refl, sym, ap, ap₂, _∙_}
-use borrow.Author.Tests.{eq-eqb, ne-eqb, not-true, not-false}
-use mathlib.Core.Bool.{Bool, true, false, not, _&&_}
+use borrow.Author.Tests.{eq-eqb, ne-eqb}
 use Rattle.rules.specs.Group.{assigned, targeted}
 use Rattle.rules.specs.Effects.{revoked, stray}
 use Rattle.tables.proofs.changing.revoke_one.Statement.{statement}

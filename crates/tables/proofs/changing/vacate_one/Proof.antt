@@ -1,6 +1,5 @@
 -- By the test of the holder; the target is that of `without`.
-use mathlib.Core.Path.{_≡_, refl, sym, ap, ap₂, _∙_}
-use borrow.Author.Tests.{eq-eqb, ne-eqb, not-true, not-false}
+use borrow.Author.Tests.{eq-eqb, ne-eqb}
 use Rattle.rules.specs.Effects.{vacated}
 use Rattle.tables.proofs.changing.vacate_one.Statement.{statement}
 use Rattle.tables.proofs.changing.vacate_one.Tie as tie

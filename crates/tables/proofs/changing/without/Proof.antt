@@ -1,5 +1,5 @@
 -- By the test.
-use borrow.Author.Tests.{eq-eqb, ne-eqb, not-true, not-false}
+use borrow.Author.Tests.{eq-eqb, ne-eqb}
 use Rattle.tables.proofs.changing.without.Statement.{statement}
 use Rattle.tables.proofs.changing.without.Tie as tie
 

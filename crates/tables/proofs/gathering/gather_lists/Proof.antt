@@ -1,10 +1,9 @@
 -- The four sets are filled below s, and those from one near slot to the next are stepped over.
 use Rattle.rules.specs.Constants.{slotCount}
 use native.Mathlib.Omega.{arith}
-use Prim.Native.Nat.{ℕ, _+_, _-_, _≤_, _<_}
-use mathlib.Core.Path.{_≡_, refl, _∙_}
-use mathlib.Core.Bool.{true, false}
-use lib.ListN.{getD, length, length-set}
+use Prim.Native.Nat.{_-_, _≤_}
+use mathlib.Core.Path.{_≡_, refl}
+use lib.ListN.{length, length-set}
 use Rattle.tables.proofs.Filling.{Four, four-none, four-more, four-all, none-yet}
 use Rattle.tables.proofs.gathering.gather_lists.Statement.{statement}
 use Rattle.tables.proofs.gathering.gather_lists.Tie as tie

@@ -1,11 +1,9 @@
 -- Where the marks are all 0, none of the slots passed is near p.
 use borrow.Author.Tests.{eqb-true}
 use native.Mathlib.Omega.{arith}
-use Prim.Native.Nat.{ℕ, _+_, _-_, _≤_, _<_}
+use Prim.Native.Nat.{_+_, _-_, _≤_}
 use mathlib.Core.Path.{_≡_}
-use mathlib.Core.Bool.{true, false}
 use lib.ListN.{getD}
-use lib.Dec.{eqb}
 use Rattle.tables.specs.Places.{near, NoneNear}
 use Rattle.tables.proofs.Nearness.{none-more, mark-none, or-nothing}
 use Rattle.tables.proofs.searching.none_near.Statement.{statement}

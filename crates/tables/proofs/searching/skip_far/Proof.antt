@@ -1,11 +1,8 @@
 -- None of the slots passed is near p, eight at a time.
 use Rattle.rules.specs.Constants.{slotCount}
 use native.Mathlib.Omega.{arith}
-use Prim.Native.Nat.{ℕ, _+_, _-_, _≤_, _<_}
-use mathlib.Core.Path.{_≡_}
-use mathlib.Core.Bool.{true, false}
-use lib.ListN.{getD, length}
-use lib.Dec.{eqb}
+use Prim.Native.Nat.{_+_, _-_, _≤_}
+use lib.ListN.{getD}
 use Rattle.tables.specs.Places.{near, NoneNear}
 use Rattle.slots.proofs.Next.{none-join}
 use Rattle.tables.proofs.searching.skip_far.Statement.{statement}

@@ -1,5 +1,4 @@
 -- What is left of the list decides (`Open`).
-use mathlib.Core.Path.{_≡_, sym, ap, _∙_}
 use mathlib.Core.Bool.{Bool, not}
 use mathlib.Core.List.{List}
 use Prim.Native.Nat.{ℕ, _-_}
@@ -30,13 +29,13 @@ mul-s c = omega arith
 shared-slice-read-s : tie.Need-shared-slice-read-s Inv-loop μ-loop
 shared-slice-read-s c = omega arith
 
-holder-at-requires : tie.Need-holder-at-requires Inv-loop μ-loop
-holder-at-requires c κs = omega arith
+entry-at-requires : tie.Need-entry-at-requires Inv-loop μ-loop
+entry-at-requires c κs = tt
 
 returns : tie.Need-returns Inv-loop μ-loop
 returns c =
-    let l = c .before .before .before .before .before .loop in
-    open-found _ _ _ (l .inv) (omega arith) (rw (← (c .before .before .holder-at .ensures), ne-eqb _ _ (c .if1 .taken)))
+    let l = c .before .before .before .before .before .before .loop in
+    open-found _ _ _ (l .inv) (omega arith) (rw (← (c .before .before .entry-at .ensures), ne-eqb _ _ (c .if1 .taken)))
 
 add-i : tie.Need-add-i Inv-loop μ-loop
 add-i c = omega arith
@@ -46,8 +45,8 @@ loop-less c = omega arith
 
 loop-again : tie.Need-loop-again Inv-loop μ-loop
 loop-again c =
-    let l = c .before .before .before .before .before .loop in
-    open-more _ _ _ (l .inv) (omega arith) (rw (← (c .before .before .holder-at .ensures), eq-eqb _ _ (c .if1 .left)))
+    let l = c .before .before .before .before .before .before .loop in
+    open-more _ _ _ (l .inv) (omega arith) (rw (← (c .before .before .entry-at .ensures), eq-eqb _ _ (c .if1 .left)))
 
 returns-2 : tie.Need-returns-2 Inv-loop μ-loop
 returns-2 c = open-end _ _ _ (c .before .loop .inv) (omega arith)
@@ -61,7 +60,7 @@ any-unheld-spec =
     loop-holds
     mul-s
     shared-slice-read-s
-    holder-at-requires
+    entry-at-requires
     returns
     add-i
     loop-less
