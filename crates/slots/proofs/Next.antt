@@ -120,6 +120,10 @@ none-join f from i j h k s p q = go (decLt s i)
     go (yes r) = h s p r
     go (no r) = k s (omega arith) q
 
+-- one slot
+pub none-one : (f : ℕ → Bool) (i : ℕ) → f i ≡ false → (s : ℕ) → i ≤ s → s < i + 1 → f s ≡ false
+none-one f i e s p q = let same : s ≡ i = omega arith in ap f same ∙ e
+
 -- a set whose lowest slot is past the end has none
 pub none-next : (ws : List ℕ) (r : ℕ) → length ws ≡ 16 → NextFrom ws 0 r → TellsEmpty ws (eqb r slotCount)
 none-next ws r l n = (λ e s. past e s (decLt s slotCount), λ e. (r, n .2 (below (eqb-false r slotCount e)) .1))

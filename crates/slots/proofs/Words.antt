@@ -1,7 +1,7 @@
 -- Sets as words, slot by slot, by `has`. Storing a word with one bit marked or not marks that slot alone (`has-mark`); an operation on each word that is g
 -- on bits is g on sets (`wordwise`), whence union and difference.
-use mathlib.Core.Path.{_≡_, refl, sym, ap, ap₂, _∙_}
-use mathlib.Core.Bool.{Bool, true, false, not, _&&_, _||_, and-true, and-false, or-false, true≢false}
+use mathlib.Core.Path.{_≡_, sym, ap, ap₂, _∙_}
+use mathlib.Core.Bool.{Bool, true, false, _&&_, _||_, and-true, and-false, or-false, true≢false}
 use mathlib.Core.List.{List}
 use Prim.Native.Nat.{ℕ, _*_, _/_, _%_, _^_, _≤_, _<_}
 use native.Mathlib.Nat.{mod-lt, one-mul}
@@ -80,16 +80,3 @@ in-range ws s l e = go (decLt s slotCount)
     go : Dec (s < slotCount) → s < slotCount
     go (yes h) = h
     go (no h) = absurd (true≢false (sym e ∙ has-past ws s (omega arith)))
-
--- what the test of a difference for no slot tells of the two sets
-pub less-none : (x y : Bool) → (x && not y) ≡ false → x ≡ true → y ≡ true
-less-none true true e h = refl
-less-none true false e h = sym e
-less-none false true e h = refl
-less-none false false e h = h
-
-pub less-some : (x y : Bool) → (x && not y) ≡ true → (x ≡ true) × (y ≡ false)
-less-some true true e = (refl, sym e)
-less-some true false e = (refl, refl)
-less-some false true e = (e, sym e)
-less-some false false e = (e, refl)

@@ -37,7 +37,7 @@ unfolding movedBy freed revoked claimed stray assigned revoking targeted
 moved-near p true true t h w e = let z = far p t h w e in simp (z .0, z .1)
 moved-near p true false t h w e = let z = far p t h w e in simp (z .0, z .1)
 moved-near p false true t h w e = let z = far p t h w e in simp (z .0, z .1)
-moved-near p false false t h w e = let z = far p t h w e in simp (z .0, z .1)
+moved-near p false false t h w e = let z = far p t h w e in simp (z .1)
 
 pub change-near : (p : ℕ) (what : Change) → Near p (changeBy what p)
 change-near p Vacate = vacated-near p

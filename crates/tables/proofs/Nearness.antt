@@ -10,6 +10,7 @@ use Rattle.rules.specs.Basics.{if_then_else_}
 use Rattle.rules.specs.Constants.{noPlace}
 use Rattle.rules.specs.Group.{assigned, revoking, targeted}
 use Rattle.rules.proofs.Lists.{or-false}
+use Rattle.slots.proofs.Next.{none-one, none-join}
 use Rattle.tables.specs.Places.{near, claimable}
 
 -- a slot that is not near is in none of the four sets
@@ -46,11 +47,7 @@ mark-some false m e h = absurd (h e)
 
 -- one slot more that is not near
 pub none-more : (f : ℕ → Bool) (from i : ℕ) → ((s : ℕ) → from ≤ s → s < i → f s ≡ false) → f i ≡ false → (s : ℕ) → from ≤ s → s < i + 1 → f s ≡ false
-none-more f from i h e s p q = go (ℕ-discrete s i)
-  where
-    go : Dec (s ≡ i) → f s ≡ false
-    go (yes r) = ap f r ∙ e
-    go (no r) = h s p (omega arith)
+none-more f from i h e = none-join f from i (i + 1) h (none-one f i e)
 
 -- marks that are all 0
 pub or-nothing : (a b : ℕ) → bitOr a b ≡ 0 → (a ≡ 0) × (b ≡ 0)

@@ -73,8 +73,8 @@ module _ (p : ℕ) (n : eqb noPlace p ≡ false) (same : eqb p p ≡ true) where
         on : (t o : Bool) → eqb (x .target) p ≡ t → eqb (x .holder) noPlace ≡ o → eqb (x .holder) p ≡ true → x .waiting ≡ true
             → assigned p (claimed p (record { target = x .target; holder = noPlace; waiting = false }))
             ≡ (assigned p x || (claimable p x || (revoking p x && targeted p x)))
-        on true true et eo eh ew = simp (et, eo, eh, ew, n, same)
-        on true false et eo eh ew = simp (et, eo, eh, ew, n, same)
+        on true true et eo eh ew = simp (et, eo, eh, ew, same)
+        on true false et eo eh ew = simp (et, eo, eh, ew, same)
         on false o et eo eh ew = simp (et, eh, ew, n)
 
         off : (h t o w : Bool) → eqb (x .holder) p ≡ h → eqb (x .target) p ≡ t → eqb (x .holder) noPlace ≡ o → x .waiting ≡ w → (eqb

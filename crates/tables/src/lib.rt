@@ -1,5 +1,5 @@
 // The three tables of a group, with an entry for each slot, and what is done on them for one place. Nothing here knows members or epochs.
-// A place that is passed is below 255, which means no place; where a function needs that, it says so.
+// A place that is passed is below 255, which means no place; a law that needs that says so.
 mod advancing; // advancing.rt: steps 2 and 3 of an ordinary heartbeat, on the sets of a place
 pub mod bools; // bools.rt: two tests as one
 mod changing; // changing.rt: the tables with slots moved, freed or vacated

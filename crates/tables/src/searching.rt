@@ -26,7 +26,7 @@ fn near_mark(target: u8, holder: u8, p: Place) -> u8
     0
 }
 
-// Whether it is sure that none of the eight slots from `from` on is near p.
+// Whether none of the eight slots from `from` on is near p; `true` says so, `false` says nothing.
 fn none_near<'a>(target: &'a [u8; SLOTS], holder: &'a [u8; SLOTS], p: Place, from: usize) -> bool
     requires { ⌜ (length (now target) ≡ slotCount) × (length (now holder) ≡ slotCount) × (from + 8 ≤ slotCount) ⌝ }
     ensures { λ r. ⌜ (r ≡ true → NoneNear (p .0) (now (target .entry)) (now (holder .entry)) from (from + 8)) ⌝ }
@@ -41,7 +41,7 @@ fn none_near<'a>(target: &'a [u8; SLOTS], holder: &'a [u8; SLOTS], p: Place, fro
     marks == 0
 }
 
-// The slot that is reached by stepping over eights of which none is near p.
+// The slot that is reached by stepping over eights of which none is near p: which one is the program's choice, none before it is near.
 fn skip_far<'a>(target: &'a [u8; SLOTS], holder: &'a [u8; SLOTS], p: Place, from: usize) -> usize
     requires { ⌜ (length (now target) ≡ slotCount) × (length (now holder) ≡ slotCount) × (from ≤ slotCount) ⌝ }
     ensures { λ r. ⌜ (from ≤ r) × (r ≤ slotCount) × NoneNear (p .0) (now (target .entry)) (now (holder .entry)) from r ⌝ }

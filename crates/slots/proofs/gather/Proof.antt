@@ -9,6 +9,7 @@ use lib.ListN.{getD}
 use borrow.Author.Tests.{eq-eqb, ne-eqb, le-ltb}
 use Rattle.rules.specs.Constants.{slotCount, noPlace}
 use Rattle.slots.specs.Set.{has}
+use Rattle.slots.proofs.Next.{none-one}
 use Rattle.slots.proofs.Gathering.{Gather, gather-none, gather-more, gather-skip, gather-all}
 use Rattle.slots.proofs.gather.Statement.{statement}
 use Rattle.slots.proofs.gather.Tie as tie
@@ -54,7 +55,7 @@ loop-again-2 c =
     let l = c .before .before .before .before .loop in
     let e = ne-eqb _ _ (λ q. c .if1 .left (c .before .entry-at .ensures ∙ q)) in
     let off = ap (λ (b : Bool). ltb (l .s) slotCount && b) e ∙ and-false (ltb (l .s) slotCount) in
-    (omega arith, gather-skip _ (l .inv .1) (omega arith) (λ x p q. let same : x ≡ l .s = omega arith in rw same off))
+    (omega arith, gather-skip _ (l .inv .1) (omega arith) (none-one _ (l .s) off))
 
 returns : tie.Need-returns Inv-loop μ-loop
 returns c = let l = c .before .loop in gather-all (l .inv .1) (λ s h. rw (le-ltb s slotCount (omega arith)))
