@@ -4,7 +4,7 @@
 use std::io::Write;
 use std::process::{Command, Output, Stdio};
 
-const MORNING: &str = include_str!("golden/morning.txt");
+const WORKED_EXAMPLE: &str = include_str!("golden/worked_example.txt");
 const EXAMPLE: &str = include_str!("../src/example.txt");
 
 fn command(arguments: &[&str]) -> Command {
@@ -39,13 +39,13 @@ fn script(name: &str) -> String {
 
 #[test]
 fn the_built_in_example() {
-    is_output(&run(&[]), 0, MORNING, "");
+    is_output(&run(&[]), 0, WORKED_EXAMPLE, "");
 }
 
 #[test]
 fn the_built_in_script_runs_from_a_pipe_as_well() {
     is_output(&run(&["--example"]), 0, EXAMPLE, "");
-    is_output(&run_on_input(EXAMPLE.as_bytes()), 0, MORNING, "");
+    is_output(&run_on_input(EXAMPLE.as_bytes()), 0, WORKED_EXAMPLE, "");
 }
 
 /// P1 to P12 as 01 has them: the bytes, the answer's epoch and its slots.
@@ -98,7 +98,7 @@ fn the_readme_shows_what_is_printed() {
     let readme = include_str!("../../../README.md");
     let (_, excerpt) = readme.split_once("$ ./run\n").unwrap();
     let (excerpt, _) = excerpt.split_once("```").unwrap();
-    let mut rest = MORNING;
+    let mut rest = WORKED_EXAMPLE;
     for part in excerpt.split("[..]\n").filter(|part| !part.is_empty()) {
         let shown = rest.split_once(part);
         assert!(shown.is_some(), "{part}");

@@ -9,6 +9,7 @@
 #![forbid(unsafe_code)]
 
 pub mod coordinator;
+pub mod coverage;
 pub mod data;
 pub mod explore;
 pub mod force;
@@ -16,15 +17,14 @@ pub mod generate;
 mod labels;
 pub mod ledger;
 mod lent;
-mod mend;
 pub mod random;
 pub mod reader;
 pub mod reasons;
+mod repair;
 pub mod report;
 pub mod rounds;
 pub mod shrink;
 pub mod sides;
-pub mod sights;
 pub mod slots;
 pub mod snapshot;
 pub mod stored;

@@ -1,5 +1,5 @@
 //! From a run that fails to a short one: events are cut away in ever smaller pieces, as long as the
-//! rest still fails the same check. Each cut is tried as it is and mended (`mend`). In the end
+//! rest still fails the same check. Each cut is tried as it is and repaired (`repair`). In the end
 //! single events are made plainer.
 
 use std::ops::Range;
@@ -8,7 +8,7 @@ use crate::coordinator::Coordinator;
 use crate::data::{
     Beat, Event, Id, Run, Turn, NO_PLACE, PARTITIONS, PLACES, ROOMY, SLOTS, ZERO_ID,
 };
-use crate::mend::{begun_later, mended_without};
+use crate::repair::{begun_later, repaired_without};
 use crate::rounds::three_rounds;
 use crate::trial::{Check, Fault, Trial};
 
@@ -103,13 +103,13 @@ impl Search {
         if let Some(rest) = self.failing::<S, R>(rest) {
             return Some(rest);
         }
-        let (mended, lost) = mended_without::<R>(run, piece.clone(), run.start);
-        if let Some(rest) = self.failing::<S, R>(mended) {
+        let (repaired, lost) = repaired_without::<R>(run, piece.clone(), run.start);
+        if let Some(rest) = self.failing::<S, R>(repaired) {
             return Some(rest);
         }
         let later = begun_later(run.start, lost)?;
-        let (mended, _) = mended_without::<R>(run, piece, later);
-        self.failing::<S, R>(mended)
+        let (repaired, _) = repaired_without::<R>(run, piece, later);
+        self.failing::<S, R>(repaired)
     }
 
     /// Makes single events plainer: all the room, nothing given that needn't be, shorter lists.

@@ -2,10 +2,10 @@
 
 use std::fmt;
 
+use crate::coverage::{is_reached, Situation};
 use crate::data::{Answer, Event, Turn};
 use crate::labels::labels;
 use crate::reasons::{Reason, Row};
-use crate::sights::{is_seen, Sight};
 use crate::trial::Step;
 
 labels! {
@@ -77,7 +77,7 @@ pub struct Tally {
     refused: [u64; Reason::ALL.len()],
     /// By the row given and a later one earned besides.
     pairs: [[u64; Row::ALL.len()]; Row::ALL.len()],
-    sights: [u64; Sight::ALL.len()],
+    situations: [u64; Situation::ALL.len()],
 }
 
 impl Default for Tally {
@@ -92,7 +92,7 @@ impl Default for Tally {
             accepted: [0; Kind::ALL.len()],
             refused: [0; Reason::ALL.len()],
             pairs: [[0; Row::ALL.len()]; Row::ALL.len()],
-            sights: [0; Sight::ALL.len()],
+            situations: [0; Situation::ALL.len()],
         }
     }
 }
@@ -109,8 +109,8 @@ impl Tally {
             return;
         }
         self.accepted[kind(turn, step) as usize] += 1;
-        for &sight in Sight::ALL {
-            self.sights[sight as usize] += u64::from(is_seen(sight, turn, step));
+        for &situation in Situation::ALL {
+            self.situations[situation as usize] += u64::from(is_reached(situation, turn, step));
         }
     }
 
@@ -143,8 +143,8 @@ impl Tally {
         self.pairs[first as usize][second as usize]
     }
 
-    pub fn seen(&self, sight: Sight) -> u64 {
-        self.sights[sight as usize]
+    pub fn reached(&self, situation: Situation) -> u64 {
+        self.situations[situation as usize]
     }
 
     /// All that was never met, in words.
@@ -165,9 +165,9 @@ impl Tally {
                 never.push(format!("accepted: {}", kind.label()));
             }
         }
-        for &sight in Sight::ALL {
-            if self.seen(sight) == 0 {
-                never.push(format!("seen: {}", sight.label()));
+        for &situation in Situation::ALL {
+            if self.reached(situation) == 0 {
+                never.push(format!("reached: {}", situation.label()));
             }
         }
         if self.busy_rounds == 0 {
@@ -205,9 +205,9 @@ impl fmt::Display for Tally {
             let (count, first, second) = (self.pair(first, second), first.label(), second.label());
             writeln!(f, "{count:>10}  {first}, before {second}")?;
         }
-        writeln!(f, "\nSeen")?;
-        for &sight in Sight::ALL {
-            writeln!(f, "{:>10}  {}", self.seen(sight), sight.label())?;
+        writeln!(f, "\nReached")?;
+        for &situation in Situation::ALL {
+            writeln!(f, "{:>10}  {}", self.reached(situation), situation.label())?;
         }
         Ok(())
     }

@@ -25,8 +25,8 @@ fn picture(lines: &str, more: &str) -> String {
     after.lines(&before, Style::for_output(false)).join("\n")
 }
 
-/// 01's morning up to P7.
-const MORNING: &str = "fresh tick 1000
+/// 01's worked example up to P7.
+const UP_TO_P7: &str = "fresh tick 1000
 topic 0 id 11 count 3
 join AA tick 1000 timeout 300 topics 0
 install epoch 1 0-2 to p0
@@ -53,13 +53,13 @@ free    none
   place  member  epoch  holds   gives back  awaits
 * p0     AA      1      t0:0-1  t0:2        -
   p1     BB      2      -       -           t0:2";
-    assert_eq!(picture(MORNING, "beat AA epoch 1 list 0-2"), expected);
+    assert_eq!(picture(UP_TO_P7, "beat AA epoch 1 list 0-2"), expected);
 }
 
 #[test]
 fn nothing_changed() {
     let mut group = Group::new(0);
-    run(&mut group, MORNING);
+    run(&mut group, UP_TO_P7);
     let before = Picture::of(&group);
     run(&mut group, "beat BB epoch 2 list none tick +10");
     assert!(before == Picture::of(&group));
@@ -72,7 +72,7 @@ free    t0:0-2
   place  member  epoch  holds  gives back  awaits
 * p0     AA      gone   -      -           -
   p1     BB      2      -      -           t0:2";
-    assert_eq!(picture(MORNING, "leave AA"), expected);
+    assert_eq!(picture(UP_TO_P7, "leave AA"), expected);
 }
 
 /// Ten members, w0 to w9, at epochs 1 to 10.

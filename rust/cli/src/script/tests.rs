@@ -6,7 +6,7 @@ fn outcome(script: &[u8]) -> (String, Option<String>) {
     let mut out = Vec::new();
     let mut input = script;
     let mut session = Session::new(&mut out, Style::for_output(false));
-    let failure = match run("morning", &mut input, &mut session) {
+    let failure = match run("example", &mut input, &mut session) {
         Ok(()) => None,
         Err(Failure::Input(text)) => Some(text),
         Err(Failure::Output(error)) => panic!("{error}"),
@@ -56,7 +56,7 @@ fn events_are_counted_for_each_group() {
 fn nothing_runs_after_a_line_that_is_wrong() {
     let (printed, failure) = outcome(b"sweep\n\n  sweep tick soon # s\nsweep\n");
     assert_eq!(printed.matches("sweep").count(), 1);
-    let expected = "morning, line 3: 'soon' is not a number
+    let expected = "example, line 3: 'soon' is not a number
       sweep tick soon # s
                  ^^^^
     expected a whole number from 0 to 4294967295";
@@ -65,7 +65,7 @@ fn nothing_runs_after_a_line_that_is_wrong() {
 
 #[test]
 fn what_is_missing_is_marked_behind_the_event() {
-    let expected = "morning, line 1: leave has no ID
+    let expected = "example, line 1: leave has no ID
     leave  # who?
          ^
     expected leave ID [tick TICK] [room BYTES]";
@@ -83,7 +83,7 @@ fn marks_stand_below_letters_and_tabs() {
 
 #[test]
 fn bytes_that_are_no_text() {
-    let expected = "morning, line 2: it is not text in UTF-8";
+    let expected = "example, line 2: it is not text in UTF-8";
     assert_eq!(failure(b"sweep\n\xFF\xFE\n"), expected);
 }
 
@@ -92,7 +92,7 @@ fn a_line_without_end() {
     let mut script = b"#".repeat(LONGEST);
     assert_eq!(outcome(&script).1, None);
     script.push(b'#');
-    let expected = "morning, line 1: it is longer than 65536 bytes";
+    let expected = "example, line 1: it is longer than 65536 bytes";
     assert_eq!(failure(&script), expected);
 }
 
@@ -112,7 +112,7 @@ impl Write for Closed {
 #[test]
 fn output_that_closes_early_ends_the_run() {
     let mut session = Session::new(Closed, Style::for_output(false));
-    let outcome = run("morning", &mut &b"sweep\nsweep\n"[..], &mut session);
+    let outcome = run("example", &mut &b"sweep\nsweep\n"[..], &mut session);
     let Err(Failure::Output(error)) = outcome else {
         panic!();
     };

@@ -35,7 +35,7 @@ sweep: 0, interval 0, epoch 0, count 1, slot 65535
 
 #[test]
 fn p1_to_p4_a_refusal_and_a_sweep() {
-    assert_eq!(output_of("morning"), PRINTED);
+    assert_eq!(output_of("worked_example"), PRINTED);
 }
 
 /// The README's program prints what the README says, between its command and the block's end.

@@ -1,18 +1,18 @@
 //! Installs: what they write, and each reason for 1006, 1004 and 1005.
 
-use super::desk::*;
+use super::host::*;
 use crate::coordinator::{Answer, Refusal};
 
 /// Topics 0 and 1, with three and two partitions; AA* subscribes to 0, BB* to both. G is 2.
-fn two_topics() -> Desk {
-    let mut desk = Desk::new(0);
-    desk.topic(0, [0x11; 16], 3);
-    desk.topic(1, [0x22; 16], 2);
-    desk.heartbeat(join(AA, 0));
+fn two_topics() -> Host {
+    let mut host = Host::new(0);
+    host.topic(0, [0x11; 16], 3);
+    host.topic(1, [0x22; 16], 2);
+    host.heartbeat(join(AA, 0));
     let mut both = join(BB, 0);
     both.subscription = Some(3);
-    desk.heartbeat(both);
-    desk
+    host.heartbeat(both);
+    host
 }
 
 fn bad(slot: u16) -> Answer {
@@ -21,37 +21,37 @@ fn bad(slot: u16) -> Answer {
 
 #[test]
 fn the_length_comes_first() {
-    let mut desk = two_topics();
+    let mut host = two_topics();
     for length in [0, 1, 1_023, 1_025, 2_048] {
-        assert_eq!(desk.install(9, &vec![NONE; length]).answer, bad(65_535));
+        assert_eq!(host.install(9, &vec![NONE; length]).answer, bad(65_535));
     }
-    assert_eq!(desk.install(2, &[NONE; 1_024]).answer, Answer::Done);
+    assert_eq!(host.install(2, &[NONE; 1_024]).answer, Answer::Done);
 }
 
 #[test]
 fn then_the_epoch_then_whether_it_is_there_already() {
-    let mut desk = two_topics();
+    let mut host = two_topics();
     let worst = vec![200; 1_024];
     for epoch in [1, 3, 0, -1, i32::MIN, i32::MAX] {
-        assert_eq!(desk.install(epoch, &worst).answer, refused(Refusal::Stale));
+        assert_eq!(host.install(epoch, &worst).answer, refused(Refusal::Stale));
     }
-    assert_eq!(desk.install(2, &entries(&[])).answer, Answer::Done);
-    assert_eq!(desk.install(1, &worst).answer, refused(Refusal::Stale));
-    assert_eq!(desk.install(2, &worst).answer, refused(Refusal::Already));
+    assert_eq!(host.install(2, &entries(&[])).answer, Answer::Done);
+    assert_eq!(host.install(1, &worst).answer, refused(Refusal::Stale));
+    assert_eq!(host.install(2, &worst).answer, refused(Refusal::Already));
 }
 
 #[test]
 fn a_fresh_group_has_its_target_already() {
-    let mut desk = Desk::new(0);
+    let mut host = Host::new(0);
     assert_eq!(
-        desk.install(0, &entries(&[])).answer,
+        host.install(0, &entries(&[])).answer,
         refused(Refusal::Already)
     );
 }
 
 #[test]
 fn each_bad_entry_is_reported_by_its_slot() {
-    let mut desk = two_topics();
+    let mut host = two_topics();
     let cases = [
         (2, 32, 2),        // above 31
         (2, 254, 2),       // above 31
@@ -63,46 +63,46 @@ fn each_bad_entry_is_reported_by_its_slot() {
         (64, 0, 64),       // doesn't subscribe
     ];
     for (slot, place, reported) in cases {
-        let given = desk.install(2, &entries(&[(slot, place)]));
+        let given = host.install(2, &entries(&[(slot, place)]));
         assert_eq!(given.answer, bad(reported), "slot {slot} to {place}");
     }
     let good = entries(&[(0, 0), (1, 1), (64, 1), (65, 1)]);
-    let given = desk.install(2, &good);
+    let given = host.install(2, &good);
     assert_eq!(given.bytes, hex("07 00 01 00 07 01 03 01 3F 01 06 02"));
-    assert_eq!(desk.group.target_of(65), Some(1));
+    assert_eq!(host.group.target_of(65), Some(1));
 }
 
 #[test]
 fn the_first_bad_slot_is_reported() {
-    let mut desk = two_topics();
-    let given = desk.install(2, &entries(&[(0, 1), (2, 7), (64, 0), (200, 40)]));
+    let mut host = two_topics();
+    let given = host.install(2, &entries(&[(0, 1), (2, 7), (64, 0), (200, 40)]));
     assert_eq!(given.answer, bad(2));
 }
 
 #[test]
 fn an_equal_target_writes_its_epoch_alone() {
-    let mut desk = after_p4();
-    desk.topic(0, [0x11; 16], 4);
-    let given = desk.install(2, &entries(&[(0, 0), (1, 0), (2, 0)]));
+    let mut host = after_p4();
+    host.topic(0, [0x11; 16], 4);
+    let given = host.install(2, &entries(&[(0, 0), (1, 0), (2, 0)]));
     assert_eq!(given.bytes, hex("06 02"));
-    assert_eq!(desk.group.target_epoch(), 2);
+    assert_eq!(host.group.target_epoch(), 2);
 }
 
 #[test]
 fn all_entries_are_judged_and_not_the_changed_ones_alone() {
-    let mut desk = after_p4();
+    let mut host = after_p4();
     let mut drops = ordinary(AA, 1, 1_000, None);
     drops.subscription = Some(2);
-    desk.heartbeat(drops);
-    let given = desk.install(2, &entries(&[(0, 0), (1, 0), (2, 0)]));
+    host.heartbeat(drops);
+    let given = host.install(2, &entries(&[(0, 0), (1, 0), (2, 0)]));
     assert_eq!(given.answer, bad(0));
 }
 
 #[test]
 fn an_install_moves_nothing_by_itself() {
-    let mut desk = after_p4();
-    let before = desk.member(0);
-    desk.topic(0, [0x11; 16], 4);
-    desk.install(2, &entries(&[(3, 0)]));
-    assert_eq!(desk.member(0), before);
+    let mut host = after_p4();
+    let before = host.member(0);
+    host.topic(0, [0x11; 16], 4);
+    host.install(2, &entries(&[(3, 0)]));
+    assert_eq!(host.member(0), before);
 }

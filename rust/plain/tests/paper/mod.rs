@@ -1,16 +1,16 @@
 //! 01's worked cases and boundary pairs, for any crate that has the names of shared/API.md and is
 //! called `coordinator` at the root of the test.
 
-mod desk;
+mod host;
 
 mod clock;
 mod epoch_end;
 mod installs;
 mod members;
-mod morning;
 mod order;
 mod refusals;
 mod room;
 mod steps;
 mod sweeps;
 mod topics;
+mod worked_example;

@@ -1,130 +1,130 @@
 //! "They are tried in this order": each event here earns two refusals or more, and the first row of
 //! the table wins.
 
-use super::desk::*;
+use super::host::*;
 use crate::coordinator::{Group, Heartbeat, Refusal};
 
 const END: i32 = i32::MAX;
 
 /// 32 members at G's largest value; the first has timeout 300 and subscribes to topic 0.
-fn full_at_the_end() -> Desk {
-    let mut desk = Desk::with(Group::at_epochs(0, END - 32, 0));
+fn full_at_the_end() -> Host {
+    let mut host = Host::with(Group::at_epochs(0, END - 32, 0));
     for number in 0..32 {
-        desk.heartbeat(join(id(number), 0));
+        host.heartbeat(join(id(number), 0));
     }
-    assert_eq!(desk.group.epoch(), END);
-    desk.lend(0, 0);
-    desk
+    assert_eq!(host.group.epoch(), END);
+    host.lend(0, 0);
+    host
 }
 
-fn expect(desk: &mut Desk, request: Heartbeat, refusal: Refusal) {
-    assert_eq!(desk.heartbeat(request).answer, refused(refusal));
+fn expect(host: &mut Host, request: Heartbeat, refusal: Refusal) {
+    assert_eq!(host.heartbeat(request).answer, refused(refusal));
 }
 
 #[test]
 fn of_a_join() {
     let back = u32::MAX;
-    let mut desk = full_at_the_end();
+    let mut host = full_at_the_end();
     let malformed = Heartbeat {
         timeout: 0,
         ..join(id(99), 0)
     };
-    expect(&mut desk, join(ZERO, back), Refusal::Clock);
+    expect(&mut host, join(ZERO, back), Refusal::Clock);
     expect(
-        &mut desk,
+        &mut host,
         Heartbeat {
             tick: back,
             ..malformed
         },
         Refusal::Clock,
     );
-    expect(&mut desk, malformed, Refusal::InvalidRequest);
-    expect(&mut desk, join(id(99), 0), Refusal::GroupMaxSizeReached);
-    expect(&mut desk, join(id(5), 0), Refusal::EpochEnd);
-    let mut roomless = Desk::new(0);
+    expect(&mut host, malformed, Refusal::InvalidRequest);
+    expect(&mut host, join(id(99), 0), Refusal::GroupMaxSizeReached);
+    expect(&mut host, join(id(5), 0), Refusal::EpochEnd);
+    let mut roomless = Host::new(0);
     expect(roomless.lend(22, 0), join(AA, 0), Refusal::Room);
 }
 
 /// A heartbeat of the first member that changes its subscription and lists a slot it hasn't.
-fn worst(desk: &Desk) -> Heartbeat<'static> {
+fn worst(host: &Host) -> Heartbeat<'static> {
     Heartbeat {
         subscription: Some(2),
-        ..ordinary(id(0), desk.member(0).epoch, 0, Some(&[9]))
+        ..ordinary(id(0), host.member(0).epoch, 0, Some(&[9]))
     }
 }
 
 #[test]
 fn of_an_ordinary_heartbeat_by_a_stranger() {
-    let mut desk = full_at_the_end();
-    let mut request = worst(&desk);
+    let mut host = full_at_the_end();
+    let mut request = worst(&host);
     request.id = id(99);
     request.owned = Some(&[9, 9]);
     request.tick = u32::MAX;
-    expect(&mut desk, Heartbeat { ..request }, Refusal::Clock);
+    expect(&mut host, Heartbeat { ..request }, Refusal::Clock);
     request.tick = 0;
-    expect(&mut desk, Heartbeat { ..request }, Refusal::InvalidRequest);
+    expect(&mut host, Heartbeat { ..request }, Refusal::InvalidRequest);
     request.owned = Some(&[9]);
-    expect(&mut desk, request, Refusal::UnknownMemberId);
+    expect(&mut host, request, Refusal::UnknownMemberId);
 }
 
 #[test]
 fn of_an_ordinary_heartbeat_by_a_member() {
-    let mut desk = full_at_the_end();
-    let mut request = worst(&desk);
+    let mut host = full_at_the_end();
+    let mut request = worst(&host);
     request.epoch += 1;
-    expect(&mut desk, request, Refusal::FencedMemberEpoch);
-    let request = worst(&desk);
-    expect(&mut desk, request, Refusal::InvalidRequest);
-    let mut request = worst(&desk);
+    expect(&mut host, request, Refusal::FencedMemberEpoch);
+    let request = worst(&host);
+    expect(&mut host, request, Refusal::InvalidRequest);
+    let mut request = worst(&host);
     request.owned = None;
-    expect(&mut desk, Heartbeat { ..request }, Refusal::EpochEnd);
+    expect(&mut host, Heartbeat { ..request }, Refusal::EpochEnd);
     request.subscription = None;
     request.timeout = 1;
-    expect(&mut desk, request, Refusal::Room);
+    expect(&mut host, request, Refusal::Room);
 }
 
 #[test]
 fn of_a_leave() {
-    let mut desk = after_p4();
-    desk.lend(0, 0);
-    expect(&mut desk, leave(ZERO, 999), Refusal::Clock);
-    expect(&mut desk, leave(ZERO, 1_000), Refusal::InvalidRequest);
-    expect(&mut desk, leave(BB, 1_000), Refusal::UnknownMemberId);
-    expect(&mut desk, leave(AA, 1_000), Refusal::Room);
+    let mut host = after_p4();
+    host.lend(0, 0);
+    expect(&mut host, leave(ZERO, 999), Refusal::Clock);
+    expect(&mut host, leave(ZERO, 1_000), Refusal::InvalidRequest);
+    expect(&mut host, leave(BB, 1_000), Refusal::UnknownMemberId);
+    expect(&mut host, leave(AA, 1_000), Refusal::Room);
 }
 
 #[test]
 fn of_a_sweep() {
-    let mut desk = after_p4();
-    desk.lend(0, 0);
-    assert_eq!(desk.sweep(999).answer, refused(Refusal::Clock));
-    assert_eq!(desk.sweep(46_000).answer, refused(Refusal::Room));
+    let mut host = after_p4();
+    host.lend(0, 0);
+    assert_eq!(host.sweep(999).answer, refused(Refusal::Clock));
+    assert_eq!(host.sweep(46_000).answer, refused(Refusal::Room));
 }
 
 #[test]
 fn of_a_topic() {
-    let mut desk = full_at_the_end();
+    let mut host = full_at_the_end();
     let topic = [0x11; 16];
-    assert_eq!(desk.topic(0, topic, 65).answer, refused(Refusal::BadTopic));
-    assert_eq!(desk.topic(0, topic, 64).answer, refused(Refusal::EpochEnd));
-    assert_eq!(desk.topic(1, topic, 64).answer, refused(Refusal::Room));
+    assert_eq!(host.topic(0, topic, 65).answer, refused(Refusal::BadTopic));
+    assert_eq!(host.topic(0, topic, 64).answer, refused(Refusal::EpochEnd));
+    assert_eq!(host.topic(1, topic, 64).answer, refused(Refusal::Room));
 }
 
 #[test]
 fn of_an_install() {
-    let mut desk = after_p4();
-    desk.lend(0, 0);
+    let mut host = after_p4();
+    host.lend(0, 0);
     let bad = entries(&[(5, 0)]);
     let length = Refusal::BadTarget { slot: 65_535 };
-    assert_eq!(desk.install(0, &bad[..1_023]).answer, refused(length));
-    assert_eq!(desk.install(0, &bad).answer, refused(Refusal::Stale));
-    assert_eq!(desk.install(1, &bad).answer, refused(Refusal::Already));
-    desk.lend(ROOMY, 0).topic(0, [0x11; 16], 4);
-    desk.lend(0, 0);
+    assert_eq!(host.install(0, &bad[..1_023]).answer, refused(length));
+    assert_eq!(host.install(0, &bad).answer, refused(Refusal::Stale));
+    assert_eq!(host.install(1, &bad).answer, refused(Refusal::Already));
+    host.lend(ROOMY, 0).topic(0, [0x11; 16], 4);
+    host.lend(0, 0);
     let slot = Refusal::BadTarget { slot: 5 };
-    assert_eq!(desk.install(2, &bad).answer, refused(slot));
+    assert_eq!(host.install(2, &bad).answer, refused(slot));
     assert_eq!(
-        desk.install(2, &entries(&[])).answer,
+        host.install(2, &entries(&[])).answer,
         refused(Refusal::Room)
     );
 }

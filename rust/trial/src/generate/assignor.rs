@@ -12,7 +12,7 @@ struct View {
 }
 
 #[derive(Clone, Copy)]
-enum Manner {
+enum Strategy {
     /// By turns.
     Even,
     /// What the last target has, where it may stay.
@@ -24,15 +24,15 @@ enum Manner {
     Nothing,
 }
 
-const MANNERS: [Manner; 8] = [
-    Manner::Even,
-    Manner::Even,
-    Manner::Sticky,
-    Manner::Sticky,
-    Manner::Random,
-    Manner::OneTakesAll,
-    Manner::Sparse,
-    Manner::Nothing,
+const STRATEGIES: [Strategy; 8] = [
+    Strategy::Even,
+    Strategy::Even,
+    Strategy::Sticky,
+    Strategy::Sticky,
+    Strategy::Random,
+    Strategy::OneTakesAll,
+    Strategy::Sparse,
+    Strategy::Nothing,
 ];
 
 impl View {
@@ -69,7 +69,7 @@ impl World {
     }
 
     fn good_entries<C: Coordinator>(&mut self, group: &C, view: &View) -> Vec<u8> {
-        let manner = self.random.pick(&MANNERS);
+        let strategy = self.random.pick(&STRATEGIES);
         let favourite = self.random.below(PLACES.into());
         let mut entries = vec![NO_PLACE; SLOTS];
         for topic in 0..TOPICS {
@@ -78,17 +78,17 @@ impl World {
                 continue;
             }
             for slot in view.slots(topic) {
-                entries[slot] = match manner {
-                    Manner::Even => places[slot % places.len()],
-                    Manner::Sticky => {
+                entries[slot] = match strategy {
+                    Strategy::Even => places[slot % places.len()],
+                    Strategy::Sticky => {
                         let stays = group.target_of(slot as u16);
                         let stays = stays.filter(|place| places.contains(place));
                         stays.unwrap_or_else(|| self.random.pick(&places))
                     }
-                    Manner::Random => self.random.pick(&places),
-                    Manner::OneTakesAll => places[favourite % places.len()],
-                    Manner::Sparse if self.random.chance(1, 2) => self.random.pick(&places),
-                    Manner::Sparse | Manner::Nothing => NO_PLACE,
+                    Strategy::Random => self.random.pick(&places),
+                    Strategy::OneTakesAll => places[favourite % places.len()],
+                    Strategy::Sparse if self.random.chance(1, 2) => self.random.pick(&places),
+                    Strategy::Sparse | Strategy::Nothing => NO_PLACE,
                 };
             }
         }

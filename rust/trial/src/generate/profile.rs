@@ -71,7 +71,7 @@ pub static PROFILES: [Profile; 11] = [
         ..CALM
     },
     Profile {
-        name: "crowd",
+        name: "many members",
         clients: (30, 40),
         topics: 6,
         partitions: 64,

@@ -4,25 +4,25 @@ use trial::data::{Answer, Beat, Event, Reply};
 use trial::trial::Check;
 use trial::Coordinator;
 
-use super::bent::*;
+use super::mutant::*;
 use super::{caught, caught_on_both_sides};
 
 /// Frees P because a heartbeat without a list came in.
 struct FreesWithoutList;
 
-impl Bend for FreesWithoutList {
+impl Mutation for FreesWithoutList {
     fn heartbeat(
         &self,
-        bent: &mut Bent,
+        mutant: &mut Mutant,
         beat: &Beat,
         records: &mut [u8],
         list: &mut [u16],
     ) -> Reply {
         let mut beat = beat.clone();
-        if let (None, Some((_, member))) = (&beat.owned, sender(&bent.group, &beat)) {
+        if let (None, Some((_, member))) = (&beat.owned, sender(&mutant.group, &beat)) {
             beat.owned = Some(member.assigned);
         }
-        Coordinator::heartbeat(&mut bent.group, &beat, records, list)
+        Coordinator::heartbeat(&mut mutant.group, &beat, records, list)
     }
 }
 
@@ -35,23 +35,23 @@ fn p_freed_without_a_list() {
 /// Frees P although the list still has a part of it.
 struct FreesPartlyListed;
 
-impl Bend for FreesPartlyListed {
+impl Mutation for FreesPartlyListed {
     fn heartbeat(
         &self,
-        bent: &mut Bent,
+        mutant: &mut Mutant,
         beat: &Beat,
         records: &mut [u8],
         list: &mut [u16],
     ) -> Reply {
         let mut beat = beat.clone();
-        let sender = sender(&bent.group, &beat);
+        let sender = sender(&mutant.group, &beat);
         if let (Some(owned), Some((_, member))) = (&mut beat.owned, sender) {
             let all = member.revoking.iter().all(|slot| owned.contains(slot));
             if !all {
                 owned.retain(|slot| !member.revoking.contains(slot));
             }
         }
-        Coordinator::heartbeat(&mut bent.group, &beat, records, list)
+        Coordinator::heartbeat(&mut mutant.group, &beat, records, list)
     }
 }
 
@@ -64,17 +64,17 @@ fn p_freed_while_a_part_of_it_is_listed() {
 /// Tells a member all of M at once.
 struct HandsOutWholeTarget;
 
-impl Bend for HandsOutWholeTarget {
+impl Mutation for HandsOutWholeTarget {
     fn heartbeat(
         &self,
-        bent: &mut Bent,
+        mutant: &mut Mutant,
         beat: &Beat,
         records: &mut [u8],
         list: &mut [u16],
     ) -> Reply {
-        let reply = Coordinator::heartbeat(&mut bent.group, beat, records, list);
-        match find(&bent.group, &beat.id) {
-            Some((place, _)) => tell(reply, &target(&bent.group, place), list),
+        let reply = Coordinator::heartbeat(&mut mutant.group, beat, records, list);
+        match find(&mutant.group, &beat.id) {
+            Some((place, _)) => tell(reply, &target(&mutant.group, place), list),
             None => reply,
         }
     }
@@ -90,31 +90,34 @@ fn the_whole_target_handed_out() {
 /// target is kept until the next install, and told to whoever sits there.
 struct KeepsOldTarget;
 
-impl Bend for KeepsOldTarget {
+impl Mutation for KeepsOldTarget {
     fn heartbeat(
         &self,
-        bent: &mut Bent,
+        mutant: &mut Mutant,
         beat: &Beat,
         records: &mut [u8],
         list: &mut [u16],
     ) -> Reply {
-        let place_before = find(&bent.group, &beat.id).map(|(place, _)| place);
-        let targets = place_before.map(|place| (place, target(&bent.group, place)));
-        let reply = Coordinator::heartbeat(&mut bent.group, beat, records, list);
+        let place_before = find(&mutant.group, &beat.id).map(|(place, _)| place);
+        let targets = place_before.map(|place| (place, target(&mutant.group, place)));
+        let reply = Coordinator::heartbeat(&mut mutant.group, beat, records, list);
         match (reply.answer, targets) {
             (Answer::Left, Some((place, slots))) => {
                 for slot in slots {
-                    bent.target[usize::from(slot)] = Some(place);
+                    mutant.target[usize::from(slot)] = Some(place);
                 }
                 reply
             }
             (Answer::Assignment { .. }, Some((place, _))) if beat.epoch > 0 => {
                 let slots = 0..1_024_u16;
                 let is_told = |&slot: &u16| {
-                    let (old, new) = (bent.target[usize::from(slot)], bent.group.target_of(slot));
+                    let (old, new) = (
+                        mutant.target[usize::from(slot)],
+                        mutant.group.target_of(slot),
+                    );
                     old == Some(place) || new == Some(place) && old.is_none()
                 };
-                if bent.target.contains(&Some(place)) {
+                if mutant.target.contains(&Some(place)) {
                     let slots: Vec<u16> = slots.filter(is_told).collect();
                     tell(reply, &slots, list)
                 } else {
@@ -125,10 +128,16 @@ impl Bend for KeepsOldTarget {
         }
     }
 
-    fn install(&self, bent: &mut Bent, epoch: i32, entries: &[u8], records: &mut [u8]) -> Reply {
-        let reply = Coordinator::install(&mut bent.group, epoch, entries, records);
+    fn install(
+        &self,
+        mutant: &mut Mutant,
+        epoch: i32,
+        entries: &[u8],
+        records: &mut [u8],
+    ) -> Reply {
+        let reply = Coordinator::install(&mut mutant.group, epoch, entries, records);
         if !reply.answer.is_refusal() {
-            bent.target.fill(None);
+            mutant.target.fill(None);
         }
         reply
     }
@@ -145,15 +154,25 @@ fn an_old_target_found_by_a_new_member() {
 /// Never hands out a slot: every target is taken for an empty one. The single holder holds.
 struct HandsOutNothing;
 
-impl Bend for HandsOutNothing {
-    fn install(&self, bent: &mut Bent, epoch: i32, entries: &[u8], records: &mut [u8]) -> Reply {
+impl Mutation for HandsOutNothing {
+    fn install(
+        &self,
+        mutant: &mut Mutant,
+        epoch: i32,
+        entries: &[u8],
+        records: &mut [u8],
+    ) -> Reply {
         let nothing = vec![255; 1_024];
-        let reply =
-            Coordinator::install(&mut bent.group.clone(), epoch, entries, &mut vec![0; 4_096]);
+        let reply = Coordinator::install(
+            &mut mutant.group.clone(),
+            epoch,
+            entries,
+            &mut vec![0; 4_096],
+        );
         if reply.answer.is_refusal() {
             return reply;
         }
-        Coordinator::install(&mut bent.group, epoch, &nothing, records)
+        Coordinator::install(&mut mutant.group, epoch, &nothing, records)
     }
 }
 

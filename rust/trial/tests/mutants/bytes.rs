@@ -4,23 +4,23 @@ use trial::data::{Beat, Reply};
 use trial::trial::Check;
 use trial::Coordinator;
 
-use super::bent::*;
+use super::mutant::*;
 use super::{caught, caught_on_both_sides};
 
 /// One wrong byte: the last of P's in a record 8.
 pub struct WrongByte;
 
-impl Bend for WrongByte {
+impl Mutation for WrongByte {
     fn heartbeat(
         &self,
-        bent: &mut Bent,
+        mutant: &mut Mutant,
         beat: &Beat,
         records: &mut [u8],
         list: &mut [u16],
     ) -> Reply {
-        let reply = Coordinator::heartbeat(&mut bent.group, beat, records, list);
+        let reply = Coordinator::heartbeat(&mut mutant.group, beat, records, list);
         let has_p =
-            find(&bent.group, &beat.id).is_some_and(|(_, member)| !member.revoking.is_empty());
+            find(&mutant.group, &beat.id).is_some_and(|(_, member)| !member.revoking.is_empty());
         if has_p && reply.written > 0 && records[0] == 8 {
             records[reply.written - 1] ^= 2;
         }
@@ -37,9 +37,15 @@ fn a_wrong_byte() {
 /// Writes what fits of a record to a buffer that is too short.
 struct WritesAtRefusal;
 
-impl Bend for WritesAtRefusal {
-    fn install(&self, bent: &mut Bent, epoch: i32, entries: &[u8], records: &mut [u8]) -> Reply {
-        let reply = Coordinator::install(&mut bent.group, epoch, entries, records);
+impl Mutation for WritesAtRefusal {
+    fn install(
+        &self,
+        mutant: &mut Mutant,
+        epoch: i32,
+        entries: &[u8],
+        records: &mut [u8],
+    ) -> Reply {
+        let reply = Coordinator::install(&mut mutant.group, epoch, entries, records);
         if let (true, Some(first)) = (is_refused(reply, 1003), records.first_mut()) {
             *first ^= 7;
         }
@@ -56,15 +62,15 @@ fn a_buffer_written_at_a_refusal() {
 /// Clears the list beyond the slots told.
 struct ClearsListRest;
 
-impl Bend for ClearsListRest {
+impl Mutation for ClearsListRest {
     fn heartbeat(
         &self,
-        bent: &mut Bent,
+        mutant: &mut Mutant,
         beat: &Beat,
         records: &mut [u8],
         list: &mut [u16],
     ) -> Reply {
-        let reply = Coordinator::heartbeat(&mut bent.group, beat, records, list);
+        let reply = Coordinator::heartbeat(&mut mutant.group, beat, records, list);
         let told = reply.answer.told();
         if let (1.., Some(next)) = (told, list.get_mut(told)) {
             *next = !*next;
@@ -82,21 +88,21 @@ fn a_list_written_beyond_its_slots() {
 /// Wants a byte more than it writes.
 struct WantsByteMore;
 
-impl Bend for WantsByteMore {
+impl Mutation for WantsByteMore {
     fn heartbeat(
         &self,
-        bent: &mut Bent,
+        mutant: &mut Mutant,
         beat: &Beat,
         records: &mut [u8],
         list: &mut [u16],
     ) -> Reply {
-        let mut copy = bent.group.clone();
+        let mut copy = mutant.group.clone();
         let mut bytes = records.to_vec();
         let reply = Coordinator::heartbeat(&mut copy, beat, &mut bytes, &mut list.to_vec());
         if reply.written > 0 && reply.written == records.len() {
             return refused(1003);
         }
-        Coordinator::heartbeat(&mut bent.group, beat, records, list)
+        Coordinator::heartbeat(&mut mutant.group, beat, records, list)
     }
 }
 
@@ -109,21 +115,21 @@ fn a_buffer_of_exact_length_refused() {
 /// Wants an entry more than it tells slots.
 struct WantsEntryMore;
 
-impl Bend for WantsEntryMore {
+impl Mutation for WantsEntryMore {
     fn heartbeat(
         &self,
-        bent: &mut Bent,
+        mutant: &mut Mutant,
         beat: &Beat,
         records: &mut [u8],
         list: &mut [u16],
     ) -> Reply {
-        let mut copy = bent.group.clone();
+        let mut copy = mutant.group.clone();
         let mut bytes = records.to_vec();
         let reply = Coordinator::heartbeat(&mut copy, beat, &mut bytes, &mut list.to_vec());
         if reply.answer.told() > 0 && reply.answer.told() == list.len() {
             return refused(1003);
         }
-        Coordinator::heartbeat(&mut bent.group, beat, records, list)
+        Coordinator::heartbeat(&mut mutant.group, beat, records, list)
     }
 }
 

@@ -1,4 +1,4 @@
-//! A desk at which events are tried: it lends buffers with known bytes in them and checks, after
+//! A host at which events are tried: it lends buffers with known bytes in them and checks, after
 //! every event, that what must be left alone was; at a refusal that is everything.
 
 use crate::coordinator::{Answer, Group, Heartbeat, Id, Member, Refusal, Reply, Topic};
@@ -15,7 +15,7 @@ pub const ZERO: Id = [0; 16];
 const BYTE_BEFORE: u8 = 0x5A;
 const ENTRY_BEFORE: u16 = 0xA5A5;
 
-pub struct Desk {
+pub struct Host {
     pub group: Group,
     /// Lent to the next events.
     pub buffer: usize,
@@ -52,13 +52,13 @@ pub fn picture(group: &Group) -> Picture {
     }
 }
 
-impl Desk {
-    pub fn new(tick: u32) -> Desk {
-        Desk::with(Group::new(tick))
+impl Host {
+    pub fn new(tick: u32) -> Host {
+        Host::with(Group::new(tick))
     }
 
-    pub fn with(group: Group) -> Desk {
-        Desk {
+    pub fn with(group: Group) -> Host {
+        Host {
             group,
             buffer: ROOMY,
             list: ALL_SLOTS,
@@ -86,7 +86,7 @@ impl Desk {
         self.group.member_at(place).expect("a member at the place")
     }
 
-    pub fn lend(&mut self, buffer: usize, list: usize) -> &mut Desk {
+    pub fn lend(&mut self, buffer: usize, list: usize) -> &mut Host {
         self.buffer = buffer;
         self.list = list;
         self
@@ -191,22 +191,22 @@ pub fn id(number: u8) -> Id {
 
 /// Topic 0 with three partitions, AA* a member of timeout 300, the three slots in its target and
 /// in its A: the group after P4, at tick 1000.
-pub fn after_p4() -> Desk {
-    let mut desk = Desk::new(1_000);
-    desk.topic(0, [0x11; 16], 3);
-    desk.heartbeat(join(AA, 1_000));
-    desk.install(1, &entries(&[(0, 0), (1, 0), (2, 0)]));
-    let given = desk.heartbeat(ordinary(AA, 1, 1_000, None));
+pub fn after_p4() -> Host {
+    let mut host = Host::new(1_000);
+    host.topic(0, [0x11; 16], 3);
+    host.heartbeat(join(AA, 1_000));
+    host.install(1, &entries(&[(0, 0), (1, 0), (2, 0)]));
+    let given = host.heartbeat(ordinary(AA, 1, 1_000, None));
     assert_eq!(given.slots, [0, 1, 2]);
-    desk
+    host
 }
 
 /// The group after P8, at tick 2000: A of AA* is 0 1, its P is 2, which the target gives to BB*.
-pub fn after_p8() -> Desk {
-    let mut desk = after_p4();
-    desk.heartbeat(join(BB, 2_000));
-    desk.install(2, &entries(&[(0, 0), (1, 0), (2, 1)]));
-    desk.heartbeat(ordinary(AA, 1, 2_000, Some(&[0, 1, 2])));
-    assert_eq!(desk.member(0).revoking, [2]);
-    desk
+pub fn after_p8() -> Host {
+    let mut host = after_p4();
+    host.heartbeat(join(BB, 2_000));
+    host.install(2, &entries(&[(0, 0), (1, 0), (2, 1)]));
+    host.heartbeat(ordinary(AA, 1, 2_000, Some(&[0, 1, 2])));
+    assert_eq!(host.member(0).revoking, [2]);
+    host
 }

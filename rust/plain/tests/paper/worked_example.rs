@@ -1,6 +1,6 @@
 //! "A morning with two workers": P1 to P12, one sequence, byte for byte.
 
-use super::desk::*;
+use super::host::*;
 use crate::coordinator::{Answer, Refusal};
 
 struct Row {
@@ -39,56 +39,56 @@ fn rows() -> Vec<Row> {
     rows
 }
 
-fn play(desk: &mut Desk, name: &str) -> Given {
+fn play(host: &mut Host, name: &str) -> Given {
     match name {
-        "P1" => desk.topic(0, [0x11; 16], 3),
-        "P2" => desk.heartbeat(join(AA, 1_000)),
-        "P3" => desk.install(1, &entries(&[(0, 0), (1, 0), (2, 0)])),
-        "P4" => desk.heartbeat(ordinary(AA, 1, 1_000, None)),
-        "P5" => desk.heartbeat(join(BB, 2_000)),
-        "P6" => desk.install(2, &entries(&[(0, 0), (1, 0), (2, 1)])),
-        "P7" => desk.heartbeat(ordinary(BB, 2, 2_000, Some(&[]))),
-        "P8" => desk.heartbeat(ordinary(AA, 1, 2_000, Some(&[0, 1, 2]))),
-        "P9" => desk.heartbeat(ordinary(AA, 1, 2_000, None)),
-        "P10" => desk.heartbeat(ordinary(AA, 1, 2_000, Some(&[0, 1]))),
-        "P11" => desk.heartbeat(ordinary(BB, 2, 2_000, Some(&[]))),
-        _ => desk.install(2, &entries(&[(0, 0), (1, 0), (2, 1)])),
+        "P1" => host.topic(0, [0x11; 16], 3),
+        "P2" => host.heartbeat(join(AA, 1_000)),
+        "P3" => host.install(1, &entries(&[(0, 0), (1, 0), (2, 0)])),
+        "P4" => host.heartbeat(ordinary(AA, 1, 1_000, None)),
+        "P5" => host.heartbeat(join(BB, 2_000)),
+        "P6" => host.install(2, &entries(&[(0, 0), (1, 0), (2, 1)])),
+        "P7" => host.heartbeat(ordinary(BB, 2, 2_000, Some(&[]))),
+        "P8" => host.heartbeat(ordinary(AA, 1, 2_000, Some(&[0, 1, 2]))),
+        "P9" => host.heartbeat(ordinary(AA, 1, 2_000, None)),
+        "P10" => host.heartbeat(ordinary(AA, 1, 2_000, Some(&[0, 1]))),
+        "P11" => host.heartbeat(ordinary(BB, 2, 2_000, Some(&[]))),
+        _ => host.install(2, &entries(&[(0, 0), (1, 0), (2, 1)])),
     }
 }
 
-fn check(desk: &mut Desk, row: &Row) {
-    let given = play(desk, row.name);
+fn check(host: &mut Host, row: &Row) {
+    let given = play(host, row.name);
     assert_eq!(given.answer, row.answer, "{}", row.name);
     assert_eq!(given.slots, row.slots, "{}", row.name);
     assert_eq!(given.bytes, hex(row.bytes), "{}", row.name);
-    let epochs = (desk.group.epoch(), desk.group.target_epoch());
+    let epochs = (host.group.epoch(), host.group.target_epoch());
     assert_eq!(epochs, row.epochs, "{}", row.name);
 }
 
 #[test]
 fn p1_to_p12() {
-    let mut desk = Desk::new(1_000);
+    let mut host = Host::new(1_000);
     for row in rows() {
-        check(&mut desk, &row);
+        check(&mut host, &row);
     }
-    assert_eq!(desk.group.last_tick(), 2_000);
+    assert_eq!(host.group.last_tick(), 2_000);
 }
 
 /// Each step with a buffer and a list of exactly the length it needs, and refused before that with
 /// either one short.
 #[test]
 fn p1_to_p12_in_exact_room() {
-    let mut desk = Desk::new(1_000);
+    let mut host = Host::new(1_000);
     for row in rows() {
         let (bytes, slots) = (hex(row.bytes).len(), row.slots.len());
         if let Some(short) = bytes.checked_sub(1) {
-            let given = play(desk.lend(short, ALL_SLOTS), row.name);
+            let given = play(host.lend(short, ALL_SLOTS), row.name);
             assert_eq!(given.answer, refused(Refusal::Room), "{}", row.name);
         }
         if let Some(short) = slots.checked_sub(1) {
-            let given = play(desk.lend(ROOMY, short), row.name);
+            let given = play(host.lend(ROOMY, short), row.name);
             assert_eq!(given.answer, refused(Refusal::Room), "{}", row.name);
         }
-        check(desk.lend(bytes, slots), &row);
+        check(host.lend(bytes, slots), &row);
     }
 }

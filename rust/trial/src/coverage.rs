@@ -1,4 +1,4 @@
-//! Turns that events can take, told from the group before and after them.
+//! Situations that events come to, told from the group before and after them.
 
 use crate::data::{Event, Turn};
 use crate::labels::labels;
@@ -6,8 +6,8 @@ use crate::reader::Record;
 use crate::trial::Step;
 
 labels! {
-    /// Turns of events that a trial must not go without.
-    pub enum Sight {
+    /// What a trial must reach.
+    pub enum Situation {
         Gained = "slots entered A",
         Moved = "slots moved to P",
         Freed = "P freed by a list",
@@ -37,14 +37,14 @@ labels! {
     }
 }
 
-pub fn is_seen(sight: Sight, turn: &Turn, step: &Step) -> bool {
-    use Sight::*;
+pub fn is_reached(situation: Situation, turn: &Turn, step: &Step) -> bool {
+    use Situation::*;
     let (before, after) = (step.before, step.after);
-    match sight {
+    match situation {
         Gained | Moved | Freed | FreedAndBack | FreedAndMoved | KeptByPart | KeptByNoList
-        | StepOneAlone => is_seen_of_sender(sight, turn, step),
+        | StepOneAlone => is_reached_by_sender(situation, turn, step),
         SweptSeveral | SweptByTimeout | SessionJustShort | SessionJustOver
-        | RevocationJustShort | RevocationJustOver => is_seen_in_sweep(sight, turn, step),
+        | RevocationJustShort | RevocationJustOver => is_reached_by_sweep(situation, turn, step),
         RejoinWithTarget => {
             is_join(turn) && matches!(step.records[..], [Record::Target { .. }, ..])
         }
@@ -75,7 +75,7 @@ fn is_large(record: &Record) -> bool {
 }
 
 /// What an ordinary heartbeat did to its sender.
-fn is_seen_of_sender(sight: Sight, turn: &Turn, step: &Step) -> bool {
+fn is_reached_by_sender(situation: Situation, turn: &Turn, step: &Step) -> bool {
     let Event::Heartbeat(beat) = &turn.event else {
         return false;
     };
@@ -89,17 +89,17 @@ fn is_seen_of_sender(sight: Sight, turn: &Turn, step: &Step) -> bool {
     let waited = !before.revoking.is_empty();
     let kept = waited && before.revoking == after.revoking;
     let freed = waited && !kept;
-    match sight {
-        Sight::Gained => after.assigned.len() > before.assigned.len(),
-        Sight::Moved => !waited && !after.revoking.is_empty(),
-        Sight::Freed => freed,
-        Sight::FreedAndBack => {
+    match situation {
+        Situation::Gained => after.assigned.len() > before.assigned.len(),
+        Situation::Moved => !waited && !after.revoking.is_empty(),
+        Situation::Freed => freed,
+        Situation::FreedAndBack => {
             let mut was_waiting = before.revoking.iter();
             freed && was_waiting.any(|slot| after.assigned.contains(slot))
         }
-        Sight::FreedAndMoved => freed && !after.revoking.is_empty(),
-        Sight::KeptByNoList => kept && beat.owned.is_none(),
-        Sight::KeptByPart => {
+        Situation::FreedAndMoved => freed && !after.revoking.is_empty(),
+        Situation::KeptByNoList => kept && beat.owned.is_none(),
+        Situation::KeptByPart => {
             let listed = |slot: &&u16| beat.owned.iter().flatten().any(|owned| owned == *slot);
             let count = before.revoking.iter().filter(listed).count();
             kept && count > 0 && count < before.revoking.len()
@@ -108,12 +108,12 @@ fn is_seen_of_sender(sight: Sight, turn: &Turn, step: &Step) -> bool {
     }
 }
 
-fn is_seen_in_sweep(sight: Sight, turn: &Turn, step: &Step) -> bool {
+fn is_reached_by_sweep(situation: Situation, turn: &Turn, step: &Step) -> bool {
     let Event::Sweep { tick } = turn.event else {
         return false;
     };
     let (before, after) = (step.before, step.after);
-    if sight == Sight::SweptSeveral {
+    if situation == Situation::SweptSeveral {
         return before.members.len() > after.members.len() + 1;
     }
     before.members.iter().any(|(place, member)| {
@@ -121,11 +121,11 @@ fn is_seen_in_sweep(sight: Sight, turn: &Turn, step: &Step) -> bool {
         let waiting = tick.wrapping_sub(member.revoked_at);
         let has_p = !member.revoking.is_empty();
         let stays = after.member_at(*place).is_some();
-        match sight {
-            Sight::SweptByTimeout => !stays && silent < 45_000,
-            Sight::SessionJustShort => stays && silent == 44_999,
-            Sight::SessionJustOver => !stays && silent == 45_000 && !has_p,
-            Sight::RevocationJustShort => {
+        match situation {
+            Situation::SweptByTimeout => !stays && silent < 45_000,
+            Situation::SessionJustShort => stays && silent == 44_999,
+            Situation::SessionJustOver => !stays && silent == 45_000 && !has_p,
+            Situation::RevocationJustShort => {
                 stays && has_p && waiting.wrapping_add(1) == member.timeout
             }
             _ => !stays && has_p && waiting == member.timeout && silent < 45_000,

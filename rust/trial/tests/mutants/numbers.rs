@@ -4,31 +4,31 @@ use trial::data::{Answer, Beat, Reply};
 use trial::trial::Check;
 use trial::Coordinator;
 
-use super::bent::*;
+use super::mutant::*;
 use super::{caught, caught_on_both_sides};
 
 /// Compares ticks as plain numbers.
 struct PlainTicks;
 
-impl Bend for PlainTicks {
+impl Mutation for PlainTicks {
     fn heartbeat(
         &self,
-        bent: &mut Bent,
+        mutant: &mut Mutant,
         beat: &Beat,
         records: &mut [u8],
         list: &mut [u16],
     ) -> Reply {
-        if beat.tick < bent.group.last_tick() {
+        if beat.tick < mutant.group.last_tick() {
             return refused(1001);
         }
-        Coordinator::heartbeat(&mut bent.group, beat, records, list)
+        Coordinator::heartbeat(&mut mutant.group, beat, records, list)
     }
 
-    fn sweep(&self, bent: &mut Bent, tick: u32, records: &mut [u8]) -> Reply {
-        if tick < bent.group.last_tick() {
+    fn sweep(&self, mutant: &mut Mutant, tick: u32, records: &mut [u8]) -> Reply {
+        if tick < mutant.group.last_tick() {
             return refused(1001);
         }
-        Coordinator::sweep(&mut bent.group, tick, records)
+        Coordinator::sweep(&mut mutant.group, tick, records)
     }
 }
 
@@ -41,17 +41,17 @@ fn ticks_compared_as_plain_numbers() {
 /// Raises G once for each member swept.
 struct RaisesForEach;
 
-impl Bend for RaisesForEach {
-    fn sweep(&self, bent: &mut Bent, tick: u32, records: &mut [u8]) -> Reply {
-        let reply = Coordinator::sweep(&mut bent.group, tick, records);
+impl Mutation for RaisesForEach {
+    fn sweep(&self, mutant: &mut Mutant, tick: u32, records: &mut [u8]) -> Reply {
+        let reply = Coordinator::sweep(&mut mutant.group, tick, records);
         if let Answer::Swept(removed) = reply.answer {
-            bent.number += removed.saturating_sub(1) as i32;
+            mutant.number += removed.saturating_sub(1) as i32;
         }
         reply
     }
 
-    fn epoch(&self, bent: &Bent) -> i32 {
-        bent.group.epoch().saturating_add(bent.number)
+    fn epoch(&self, mutant: &Mutant) -> i32 {
+        mutant.group.epoch().saturating_add(mutant.number)
     }
 }
 
@@ -64,9 +64,9 @@ fn g_raised_for_each_member_swept() {
 /// Makes up the number swept.
 struct CountsOneMore;
 
-impl Bend for CountsOneMore {
-    fn sweep(&self, bent: &mut Bent, tick: u32, records: &mut [u8]) -> Reply {
-        let mut reply = Coordinator::sweep(&mut bent.group, tick, records);
+impl Mutation for CountsOneMore {
+    fn sweep(&self, mutant: &mut Mutant, tick: u32, records: &mut [u8]) -> Reply {
+        let mut reply = Coordinator::sweep(&mut mutant.group, tick, records);
         if let Answer::Swept(removed) = &mut reply.answer {
             *removed += u32::from(*removed > 1);
         }
@@ -83,21 +83,21 @@ fn a_number_swept_that_is_made_up() {
 /// Sets the group's last tick although the heartbeat is refused.
 struct TicksAtRefusal;
 
-impl Bend for TicksAtRefusal {
+impl Mutation for TicksAtRefusal {
     fn heartbeat(
         &self,
-        bent: &mut Bent,
+        mutant: &mut Mutant,
         beat: &Beat,
         records: &mut [u8],
         list: &mut [u16],
     ) -> Reply {
-        let reply = Coordinator::heartbeat(&mut bent.group, beat, records, list);
-        bent.tick = is_refused(reply, 110).then_some(beat.tick);
+        let reply = Coordinator::heartbeat(&mut mutant.group, beat, records, list);
+        mutant.tick = is_refused(reply, 110).then_some(beat.tick);
         reply
     }
 
-    fn last_tick(&self, bent: &Bent) -> u32 {
-        bent.tick.unwrap_or(bent.group.last_tick())
+    fn last_tick(&self, mutant: &Mutant) -> u32 {
+        mutant.tick.unwrap_or(mutant.group.last_tick())
     }
 }
 

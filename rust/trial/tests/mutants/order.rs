@@ -4,23 +4,23 @@ use trial::data::{Beat, Reply};
 use trial::trial::Check;
 use trial::Coordinator;
 
-use super::bent::*;
+use super::mutant::*;
 use super::{caught, caught_on_both_sides};
 
 /// 25 before the first row 42.
 struct UnknownFirst;
 
-impl Bend for UnknownFirst {
+impl Mutation for UnknownFirst {
     fn heartbeat(
         &self,
-        bent: &mut Bent,
+        mutant: &mut Mutant,
         beat: &Beat,
         records: &mut [u8],
         list: &mut [u16],
     ) -> Reply {
-        let reply = Coordinator::heartbeat(&mut bent.group, beat, records, list);
+        let reply = Coordinator::heartbeat(&mut mutant.group, beat, records, list);
         let is_swapped =
-            is_refused(reply, 42) && beat.epoch > 0 && find(&bent.group, &beat.id).is_none();
+            is_refused(reply, 42) && beat.epoch > 0 && find(&mutant.group, &beat.id).is_none();
         if is_swapped {
             return refused(25);
         }
@@ -37,16 +37,16 @@ fn unknown_before_malformed() {
 /// 42 again before 110.
 struct NotHeldFirst;
 
-impl Bend for NotHeldFirst {
+impl Mutation for NotHeldFirst {
     fn heartbeat(
         &self,
-        bent: &mut Bent,
+        mutant: &mut Mutant,
         beat: &Beat,
         records: &mut [u8],
         list: &mut [u16],
     ) -> Reply {
-        let reply = Coordinator::heartbeat(&mut bent.group, beat, records, list);
-        if let (true, Some((_, member))) = (is_refused(reply, 110), find(&bent.group, &beat.id)) {
+        let reply = Coordinator::heartbeat(&mut mutant.group, beat, records, list);
+        if let (true, Some((_, member))) = (is_refused(reply, 110), find(&mutant.group, &beat.id)) {
             let mut owned = beat.owned.iter().flatten();
             if owned.any(|&slot| !member.holds(slot)) {
                 return refused(42);
@@ -65,16 +65,16 @@ fn not_held_before_fenced() {
 /// 1002 before 81.
 struct EpochEndFirst;
 
-impl Bend for EpochEndFirst {
+impl Mutation for EpochEndFirst {
     fn heartbeat(
         &self,
-        bent: &mut Bent,
+        mutant: &mut Mutant,
         beat: &Beat,
         records: &mut [u8],
         list: &mut [u16],
     ) -> Reply {
-        let reply = Coordinator::heartbeat(&mut bent.group, beat, records, list);
-        if is_refused(reply, 81) && bent.group.epoch() == i32::MAX {
+        let reply = Coordinator::heartbeat(&mut mutant.group, beat, records, list);
+        if is_refused(reply, 81) && mutant.group.epoch() == i32::MAX {
             return refused(1002);
         }
         reply
@@ -91,10 +91,16 @@ fn the_end_of_epochs_before_a_full_group() {
 /// 1005 before 1004.
 struct AlreadyFirst;
 
-impl Bend for AlreadyFirst {
-    fn install(&self, bent: &mut Bent, epoch: i32, entries: &[u8], records: &mut [u8]) -> Reply {
-        let reply = Coordinator::install(&mut bent.group, epoch, entries, records);
-        if is_refused(reply, 1004) && bent.group.epoch() == bent.group.target_epoch() {
+impl Mutation for AlreadyFirst {
+    fn install(
+        &self,
+        mutant: &mut Mutant,
+        epoch: i32,
+        entries: &[u8],
+        records: &mut [u8],
+    ) -> Reply {
+        let reply = Coordinator::install(&mut mutant.group, epoch, entries, records);
+        if is_refused(reply, 1004) && mutant.group.epoch() == mutant.group.target_epoch() {
             return refused(1005);
         }
         reply

@@ -1,14 +1,14 @@
-//! The trial can fail: each test bends the plain coordinator in one way and shows that it is found
-//! out, with a short list of events. Bent on one side, the comparison must see it. Bent alike on
-//! both, the comparison sees nothing, and one of the other checks must.
+//! The trial can fail: each test alters the plain coordinator in one way and shows that it is found
+//! out, with a short list of events. Altered on one side, the comparison must see it. Altered alike
+//! on both, the comparison sees nothing, and one of the other checks must.
 
-mod bent;
 mod bytes;
+mod mutant;
 mod numbers;
 mod order;
 mod slots;
 
-use bent::{bend, Bend, Bent, Straight};
+use mutant::{mutate, Mutant, Mutation, Unchanged};
 use trial::explore::{explore, Plan};
 use trial::report::Report;
 use trial::shrink::play;
@@ -37,26 +37,26 @@ fn found_out<S: Coordinator, R: Coordinator>() -> Report {
     *report
 }
 
-fn caught(how: &'static dyn Bend) -> Report {
-    bend(how);
-    found_out::<Bent, plain::Group>()
+fn caught(how: &'static dyn Mutation) -> Report {
+    mutate(how);
+    found_out::<Mutant, plain::Group>()
 }
 
-fn caught_on_both_sides(how: &'static dyn Bend, check: Check) -> Report {
-    bend(how);
-    let report = found_out::<Bent, Bent>();
+fn caught_on_both_sides(how: &'static dyn Mutation, check: Check) -> Report {
+    mutate(how);
+    let report = found_out::<Mutant, Mutant>();
     assert_eq!(report.fault.check, check);
     report
 }
 
 #[test]
-fn nothing_is_found_where_nothing_is_bent() {
-    bend(&Straight);
+fn nothing_is_found_where_nothing_is_altered() {
+    mutate(&Unchanged);
     let plan = Plan {
         events: 20_000,
         ..PLAN
     };
-    assert!(explore::<Bent, plain::Group>(plan, |_| ()).is_ok());
+    assert!(explore::<Mutant, plain::Group>(plan, |_| ()).is_ok());
 }
 
 /// A report names the seed and the run, and goes through the events one a line.
@@ -74,6 +74,6 @@ fn a_report_can_be_read_and_played_again() {
         run: Some(report.run),
         ..PLAN
     };
-    let again = explore::<Bent, plain::Group>(alone, |_| ());
+    let again = explore::<Mutant, plain::Group>(alone, |_| ());
     assert_eq!(again.err().map(|again| again.event), Some(report.event));
 }

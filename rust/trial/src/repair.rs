@@ -1,4 +1,4 @@
-//! Mending a run from which events were cut. Cutting a join shifts every epoch after it; so an
+//! Repairing a run from which events were cut. Cutting a join shifts every epoch after it; so an
 //! event that named its member's epoch, the group's epoch, a member's place or the exact room
 //! before is changed to do so again. A run that begins near the end of the epochs may begin nearer.
 
@@ -22,16 +22,20 @@ struct Relation {
     ahead: u32,
 }
 
-/// The rest of a run, mended, from perhaps another start; and how much lower G is at its end.
-pub fn mended_without<R: Coordinator>(run: &Run, piece: Range<usize>, start: Start) -> (Run, i32) {
+/// The rest of a run, repaired, from perhaps another start; and how much lower G is at its end.
+pub fn repaired_without<R: Coordinator>(
+    run: &Run,
+    piece: Range<usize>,
+    start: Start,
+) -> (Run, i32) {
     let mut then = R::start(run.start);
     let mut now = R::start(start);
     let mut turns = Vec::new();
     for (at, turn) in run.turns.iter().enumerate() {
         if !piece.contains(&at) {
-            let mended = mend(turn, &relation(turn, &then), &now);
-            serve(&mut now, &mended);
-            turns.push(mended);
+            let repaired = repair(turn, &relation(turn, &then), &now);
+            serve(&mut now, &repaired);
+            turns.push(repaired);
         }
         serve(&mut then, turn);
     }
@@ -104,34 +108,34 @@ fn tick(event: &Event) -> Option<u32> {
     }
 }
 
-fn mend<C: Coordinator>(turn: &Turn, relation: &Relation, now: &C) -> Turn {
-    let mut mended = turn.clone();
-    mend_tick(&mut mended.event, relation, now);
-    match &mut mended.event {
-        Event::Heartbeat(beat) => mend_beat(beat, relation, now),
+fn repair<C: Coordinator>(turn: &Turn, relation: &Relation, now: &C) -> Turn {
+    let mut repaired = turn.clone();
+    repair_tick(&mut repaired.event, relation, now);
+    match &mut repaired.event {
+        Event::Heartbeat(beat) => repair_beat(beat, relation, now),
         Event::Install { epoch, entries } => {
             let offset = relation.epoch.unwrap_or(0);
             *epoch = (i64::from(now.epoch()) + offset) as i32;
-            mend_entries(entries, &relation.names, &names(now));
+            repair_entries(entries, &relation.names, &names(now));
         }
         _ => {}
     }
     if let (Some((bytes_over, slots_over)), Some((bytes, slots))) =
-        (relation.room, need(&mended.event, now))
+        (relation.room, need(&repaired.event, now))
     {
         // Where there was all the room, there is again.
-        if mended.buffer < ROOMY {
-            mended.buffer = (bytes as i64 + bytes_over).clamp(0, ROOMY as i64) as usize;
+        if repaired.buffer < ROOMY {
+            repaired.buffer = (bytes as i64 + bytes_over).clamp(0, ROOMY as i64) as usize;
         }
-        if mended.list < SLOTS {
-            mended.list = (slots as i64 + slots_over).clamp(0, SLOTS as i64) as usize;
+        if repaired.list < SLOTS {
+            repaired.list = (slots as i64 + slots_over).clamp(0, SLOTS as i64) as usize;
         }
     }
-    mended
+    repaired
 }
 
 /// Only a tick that has come to lie too far ahead is changed, for elapsed times should stay.
-fn mend_tick<C: Coordinator>(event: &mut Event, relation: &Relation, now: &C) {
+fn repair_tick<C: Coordinator>(event: &mut Event, relation: &Relation, now: &C) {
     let (Event::Heartbeat(Beat { tick, .. }) | Event::Sweep { tick }) = event else {
         return;
     };
@@ -141,7 +145,7 @@ fn mend_tick<C: Coordinator>(event: &mut Event, relation: &Relation, now: &C) {
     }
 }
 
-fn mend_beat<C: Coordinator>(beat: &mut Beat, relation: &Relation, now: &C) {
+fn repair_beat<C: Coordinator>(beat: &mut Beat, relation: &Relation, now: &C) {
     let (Some(offset), Some(member)) = (relation.epoch, member(now, &beat.id)) else {
         return;
     };
@@ -160,7 +164,7 @@ fn names<C: Coordinator>(group: &C) -> Vec<Option<Id>> {
 }
 
 /// Each slot goes to the member who was at its place then, wherever it is now.
-fn mend_entries(entries: &mut [u8], then: &[Option<Id>], now: &[Option<Id>]) {
+fn repair_entries(entries: &mut [u8], then: &[Option<Id>], now: &[Option<Id>]) {
     for entry in entries {
         if let Some(name @ Some(_)) = then.get(usize::from(*entry)) {
             let place = now.iter().position(|other| other == name);

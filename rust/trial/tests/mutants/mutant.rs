@@ -1,4 +1,4 @@
-//! The plain coordinator with one thing bent: a wrapper that alters what goes in or comes out.
+//! The plain coordinator with one fault: a wrapper that alters what goes in or comes out.
 
 use std::cell::Cell;
 
@@ -6,64 +6,71 @@ use plain::Group;
 use trial::data::{Answer, Beat, Id, Member, Reply, Topic, PLACES};
 use trial::Coordinator;
 
-/// What is bent; everything else passes straight through.
-pub trait Bend: Sync {
+/// What is altered; everything else passes unchanged.
+pub trait Mutation: Sync {
     fn heartbeat(
         &self,
-        bent: &mut Bent,
+        mutant: &mut Mutant,
         beat: &Beat,
         records: &mut [u8],
         list: &mut [u16],
     ) -> Reply {
-        Coordinator::heartbeat(&mut bent.group, beat, records, list)
+        Coordinator::heartbeat(&mut mutant.group, beat, records, list)
     }
 
-    fn sweep(&self, bent: &mut Bent, tick: u32, records: &mut [u8]) -> Reply {
-        Coordinator::sweep(&mut bent.group, tick, records)
+    fn sweep(&self, mutant: &mut Mutant, tick: u32, records: &mut [u8]) -> Reply {
+        Coordinator::sweep(&mut mutant.group, tick, records)
     }
 
-    fn install(&self, bent: &mut Bent, epoch: i32, entries: &[u8], records: &mut [u8]) -> Reply {
-        Coordinator::install(&mut bent.group, epoch, entries, records)
+    fn install(
+        &self,
+        mutant: &mut Mutant,
+        epoch: i32,
+        entries: &[u8],
+        records: &mut [u8],
+    ) -> Reply {
+        Coordinator::install(&mut mutant.group, epoch, entries, records)
     }
 
-    fn epoch(&self, bent: &Bent) -> i32 {
-        bent.group.epoch()
+    fn epoch(&self, mutant: &Mutant) -> i32 {
+        mutant.group.epoch()
     }
 
-    fn last_tick(&self, bent: &Bent) -> u32 {
-        bent.group.last_tick()
+    fn last_tick(&self, mutant: &Mutant) -> u32 {
+        mutant.group.last_tick()
     }
 }
 
 thread_local! {
-    /// How the groups that this thread makes are bent. A trial makes its groups itself, and one
-    /// type for all bends keeps the tests quick to compile.
-    static BEND: Cell<&'static dyn Bend> = const { Cell::new(&Straight) };
+    /// Of the groups that this thread makes. A trial makes its groups itself, and one type for all
+    /// mutations keeps the tests quick to compile.
+    static MUTATION: Cell<&'static dyn Mutation> = const { Cell::new(&Unchanged) };
 }
 
-pub fn bend(bend: &'static dyn Bend) {
-    BEND.set(bend);
+/// The groups that this thread makes from here on have the mutation.
+pub fn mutate(mutation: &'static dyn Mutation) {
+    MUTATION.set(mutation);
 }
 
-/// Nothing bent.
-pub struct Straight;
+/// No mutation.
+pub struct Unchanged;
 
-impl Bend for Straight {}
+impl Mutation for Unchanged {}
 
 #[derive(Clone)]
-pub struct Bent {
-    bend: &'static dyn Bend,
+pub struct Mutant {
+    mutation: &'static dyn Mutation,
     pub group: Group,
-    /// What a bend may keep: a number, a tick, a target.
+    /// What a mutation may keep: a number, a tick, a target.
     pub number: i32,
     pub tick: Option<u32>,
     pub target: Vec<Option<u8>>,
 }
 
-impl Bent {
-    fn new(group: Group) -> Bent {
-        Bent {
-            bend: BEND.get(),
+impl Mutant {
+    fn new(group: Group) -> Mutant {
+        Mutant {
+            mutation: MUTATION.get(),
             group,
             number: 0,
             tick: None,
@@ -72,21 +79,21 @@ impl Bent {
     }
 }
 
-impl Coordinator for Bent {
+impl Coordinator for Mutant {
     fn fresh(tick: u32) -> Self {
-        Bent::new(Group::new(tick))
+        Mutant::new(Group::new(tick))
     }
 
     fn at_epochs(tick: u32, epoch: i32, target_epoch: i32) -> Self {
-        Bent::new(Group::at_epochs(tick, epoch, target_epoch))
+        Mutant::new(Group::at_epochs(tick, epoch, target_epoch))
     }
 
     fn heartbeat(&mut self, beat: &Beat, records: &mut [u8], list: &mut [u16]) -> Reply {
-        self.bend.heartbeat(self, beat, records, list)
+        self.mutation.heartbeat(self, beat, records, list)
     }
 
     fn sweep(&mut self, tick: u32, records: &mut [u8]) -> Reply {
-        self.bend.sweep(self, tick, records)
+        self.mutation.sweep(self, tick, records)
     }
 
     fn topic(&mut self, number: u32, id: Id, count: u32, records: &mut [u8]) -> Reply {
@@ -94,11 +101,11 @@ impl Coordinator for Bent {
     }
 
     fn install(&mut self, epoch: i32, entries: &[u8], records: &mut [u8]) -> Reply {
-        self.bend.install(self, epoch, entries, records)
+        self.mutation.install(self, epoch, entries, records)
     }
 
     fn epoch(&self) -> i32 {
-        self.bend.epoch(self)
+        self.mutation.epoch(self)
     }
 
     fn target_epoch(&self) -> i32 {
@@ -106,7 +113,7 @@ impl Coordinator for Bent {
     }
 
     fn last_tick(&self) -> u32 {
-        self.bend.last_tick(self)
+        self.mutation.last_tick(self)
     }
 
     fn topic_at(&self, number: u8) -> Option<Topic> {
