@@ -12,7 +12,7 @@ pub(crate) const NO_PLACE: u8 = 255;
 
 /// With count 0 there is no such topic.
 #[derive(Clone, Copy)]
-#[cfg_attr(test, derive(PartialEq))]
+#[cfg_attr(feature = "testing", derive(PartialEq))]
 #[repr(C)]
 pub(crate) struct Topic {
     pub id: [u8; 16],
@@ -21,7 +21,7 @@ pub(crate) struct Topic {
 
 /// A place and, where it is `used`, the member at it.
 #[derive(Clone, Copy)]
-#[cfg_attr(test, derive(PartialEq))]
+#[cfg_attr(feature = "testing", derive(PartialEq))]
 #[repr(C)]
 pub(crate) struct Seat {
     pub id: [u8; 16],
@@ -36,7 +36,7 @@ pub(crate) struct Seat {
 /// By slot: the place that is to have it, the place that has it, and whether that one is giving it
 /// back.
 #[derive(Clone, Copy)]
-#[cfg_attr(test, derive(PartialEq))]
+#[cfg_attr(feature = "testing", derive(PartialEq))]
 #[repr(C)]
 pub(crate) struct Tables {
     pub target: [u8; SLOTS],
@@ -45,7 +45,7 @@ pub(crate) struct Tables {
 }
 
 #[derive(Clone, Copy)]
-#[cfg_attr(test, derive(PartialEq))]
+#[cfg_attr(feature = "testing", derive(PartialEq))]
 #[repr(C)]
 pub(crate) struct Group {
     pub epoch: u32,

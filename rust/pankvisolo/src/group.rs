@@ -8,7 +8,12 @@ use crate::protocol::{Heartbeat, Id, Member, Reply, Topic};
 /// topic t is slot 64t + p.
 ///
 /// It is one plain value of some 4,600 bytes and has nothing on the heap.
+///
+/// With the feature `testing` two groups are equal where every field of the library's struct is,
+/// those too that no function here shows, such as the ID of a place that is free. The bytes between
+/// the fields belong to none and aren't compared.
 #[derive(Clone)]
+#[cfg_attr(feature = "testing", derive(PartialEq))]
 pub struct Group {
     pub(crate) value: ffi::Group,
 }
@@ -77,9 +82,9 @@ impl Group {
     }
 
     /// The group that came back is the group from here on. A refused event brings back the one that
-    /// went in, which is proved, so that one isn't copied.
-    fn keep<'a>(&mut self, served: &'a ffi::Served) -> &'a ffi::Reply {
-        if served.reply.number == answers::ACCEPTED {
+    /// went in, which is proved, so that one isn't copied; with `testing` it is, so that tests see it.
+    pub(crate) fn keep<'a>(&mut self, served: &'a ffi::Served) -> &'a ffi::Reply {
+        if cfg!(feature = "testing") || served.reply.number == answers::ACCEPTED {
             self.value = served.group;
         }
         &served.reply

@@ -9,7 +9,7 @@ use crate::member::{Holding, Membership};
 use crate::protocol::{Id, Member, Place, Slot, Topic};
 use crate::refusal::Refusal;
 
-#[derive(Clone)]
+#[derive(Clone, PartialEq, Eq)]
 pub struct Group {
     /// G.
     pub(crate) epoch: i32,

@@ -5,7 +5,7 @@ use std::collections::BTreeSet;
 use crate::limits::SESSION_TIMEOUT;
 use crate::protocol::{Id, Member, Place, Slot};
 
-#[derive(Clone)]
+#[derive(Clone, PartialEq, Eq)]
 pub(crate) struct Membership {
     pub place: Place,
     pub id: Id,
@@ -16,7 +16,7 @@ pub(crate) struct Membership {
 }
 
 /// E, A, P and the tick P was last set: what steps 2 and 3 of an ordinary heartbeat may change.
-#[derive(Clone)]
+#[derive(Clone, PartialEq, Eq)]
 pub(crate) struct Holding {
     pub epoch: i32,
     pub assigned: BTreeSet<Slot>,

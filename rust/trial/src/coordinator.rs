@@ -1,9 +1,10 @@
 //! What a coordinator must offer to be tried, and `coordinate!`, which gives it to a crate that has
-//! the names of shared/API.md.
+//! the names of the binding.
 
 use crate::data::{Beat, Event, Id, Member, Reply, Start, Topic};
 
-pub trait Coordinator: Clone {
+/// Two are equal where nothing differs, not even what no function of them shows.
+pub trait Coordinator: Clone + PartialEq {
     fn fresh(tick: u32) -> Self;
     fn at_epochs(tick: u32, epoch: i32, target_epoch: i32) -> Self;
 
@@ -40,7 +41,7 @@ pub trait Coordinator: Clone {
     }
 }
 
-/// Implements `Coordinator` for `$api::Group`, by the names that shared/API.md fixes.
+/// Implements `Coordinator` for `$api::Group`, by the names of the binding.
 macro_rules! coordinate {
     ($api:ident) => {
         impl $crate::Coordinator for $api::Group {

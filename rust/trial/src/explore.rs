@@ -3,6 +3,7 @@
 use crate::coordinator::Coordinator;
 use crate::data::{Run, Turn};
 use crate::generate::{Profile, World, PROFILES};
+use crate::panics::caught;
 use crate::random::Random;
 use crate::report::Report;
 use crate::rounds::three_rounds;
@@ -46,28 +47,32 @@ fn one_run<S: Coordinator, R: Coordinator>(
 ) -> Result<(), Box<Report>> {
     let profile = profile_of(index);
     let mut world = World::new(profile, Random::part(seed, index));
-    let start = world.start();
     let mut run = Run {
-        start,
+        start: world.start(),
         turns: Vec::new(),
         rounds: None,
     };
-    let mut trial = Trial::<S, R>::new(start);
     tally.runs += 1;
+    // A coordinator may panic outside its events too, where it is made or looked at.
+    let outcome = caught(|| events::<S, R>(&mut world, &mut run, tally));
+    outcome.and_then(|outcome| outcome).map_err(|fault| {
+        let name = profile.name;
+        Box::new(Report::new::<S, R>(seed, index, name, run, fault))
+    })
+}
+
+/// The events of a run, which is left with those that there were.
+fn events<S: Coordinator, R: Coordinator>(
+    world: &mut World,
+    run: &mut Run,
+    tally: &mut Tally,
+) -> Result<(), Fault> {
+    let mut trial = Trial::<S, R>::new(run.start);
     for _ in 0..world.length() {
         let turn = world.next(&trial.reference);
         run.turns.push(turn.clone());
-        let outcome = turn_of_world(&mut trial, &mut world, &turn, tally)
-            .and_then(|()| rounds_at_times(&trial, &mut world, &mut run, tally));
-        if let Err(fault) = outcome {
-            return Err(Box::new(Report::new::<S, R>(
-                seed,
-                index,
-                profile.name,
-                run,
-                fault,
-            )));
-        }
+        turn_of_world(&mut trial, world, &turn, tally)?;
+        rounds_at_times(&trial, world, run, tally)?;
     }
     tally.lost_answers += world.lost_answers;
     Ok(())

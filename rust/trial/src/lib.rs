@@ -17,6 +17,7 @@ pub mod generate;
 mod labels;
 pub mod ledger;
 mod lent;
+mod panics;
 pub mod random;
 pub mod reader;
 pub mod reasons;

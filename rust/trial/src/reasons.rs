@@ -6,6 +6,7 @@ use crate::data::{
     Beat, Event, Id, Member, Turn, NO_PLACE, PARTITIONS, PLACES, ROOMY, SLOTS, TOPICS, ZERO_ID,
 };
 use crate::labels::labels;
+use crate::panics::caught;
 use crate::snapshot::Snapshot;
 
 const CLOCK_WENT_BACK: u32 = 1 << 31;
@@ -171,10 +172,11 @@ pub fn room<C: Coordinator>(turn: &Turn, group: &C) -> Option<Why> {
     Some(Why { reason, slot: None })
 }
 
-/// The bytes and the list entries that the event needs, if it is accepted at all.
+/// The bytes and the list entries that the event needs, if it is accepted at all. A panic shows where
+/// the event is tried.
 pub fn need<C: Coordinator>(event: &Event, group: &C) -> Option<(usize, usize)> {
     let mut copy = group.clone();
-    let reply = copy.serve(event, &mut [0; ROOMY], &mut [0; SLOTS]);
+    let reply = caught(|| copy.serve(event, &mut [0; ROOMY], &mut [0; SLOTS])).ok()?;
     let accepted = !reply.answer.is_refusal();
     accepted.then(|| (reply.written, reply.answer.told()))
 }

@@ -6,6 +6,7 @@ use std::ops::Range;
 
 use crate::coordinator::Coordinator;
 use crate::data::{Beat, Event, Id, Member, Run, Start, Turn, NO_PLACE, PLACES, ROOMY, SLOTS};
+use crate::panics::caught;
 use crate::reasons::need;
 
 /// What an event stood in relation to when it was made.
@@ -66,7 +67,8 @@ pub fn begun_later(start: Start, lost: i32) -> Option<Start> {
 
 fn serve<C: Coordinator>(group: &mut C, turn: &Turn) {
     let (mut records, mut list) = (vec![0; turn.buffer], vec![0; turn.list]);
-    group.serve(&turn.event, &mut records, &mut list);
+    // Where it panics, the repaired run does too, when it is played.
+    let _ = caught(|| group.serve(&turn.event, &mut records, &mut list));
 }
 
 fn relation<C: Coordinator>(turn: &Turn, then: &C) -> Relation {

@@ -4,6 +4,7 @@ use std::fmt;
 
 use crate::coordinator::Coordinator;
 use crate::data::Run;
+use crate::panics::caught;
 use crate::rounds::three_rounds;
 use crate::shrink::{play, shrink, Failure};
 use crate::trial::{Fault, Step, Trial};
@@ -13,7 +14,7 @@ pub struct Report {
     pub seed: u64,
     pub run: u64,
     pub profile: &'static str,
-    /// The event of the run at which it failed.
+    /// The last event of the run before it failed, or at which it did.
     pub event: usize,
     pub fault: Fault,
     pub shortest: Run,
@@ -35,10 +36,10 @@ impl Report {
             seed,
             run: index,
             profile,
-            event: run.turns.len() - 1,
+            event: run.turns.len().saturating_sub(1),
             fault,
             shortest_failure: play::<S, R>(&shortest),
-            lines: lines::<S, R>(&shortest),
+            lines: caught(|| lines::<S, R>(&shortest)).unwrap_or_default(),
             shortest,
         }
     }

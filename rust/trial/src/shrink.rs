@@ -8,6 +8,7 @@ use crate::coordinator::Coordinator;
 use crate::data::{
     Beat, Event, Id, Run, Turn, NO_PLACE, PARTITIONS, PLACES, ROOMY, SLOTS, ZERO_ID,
 };
+use crate::panics::caught;
 use crate::repair::{begun_later, repaired_without};
 use crate::rounds::three_rounds;
 use crate::trial::{Check, Fault, Trial};
@@ -24,6 +25,13 @@ pub struct Failure {
 
 /// Plays a run from its start.
 pub fn play<S: Coordinator, R: Coordinator>(run: &Run) -> Option<Failure> {
+    caught(|| failure::<S, R>(run)).unwrap_or_else(|fault| {
+        let at = run.turns.len();
+        Some(Failure { at, fault })
+    })
+}
+
+fn failure<S: Coordinator, R: Coordinator>(run: &Run) -> Option<Failure> {
     let mut trial = Trial::<S, R>::new(run.start);
     for (at, turn) in run.turns.iter().enumerate() {
         if let Err(fault) = trial.step(turn) {

@@ -1,6 +1,6 @@
-//! The two sides of a trial. To try another coordinator with the names of shared/API.md: make its
-//! crate a dependency (the binding with its feature `testing`), add a `coordinate!` line for it,
-//! and make its group the subject.
+//! The two sides of a trial. The binding has its feature `testing`, with which a group is what the
+//! library handed back, at a refusal too. To try another coordinator with the binding's names: make
+//! its crate a dependency, add a `coordinate!` line for it, and make its group the subject.
 
 use crate::coordinator::coordinate;
 use crate::data::{Answer, Beat, Id, Member, Reply, Topic};

@@ -8,6 +8,7 @@ use crate::data::{Answer, Reply, Start, Turn};
 use crate::force::Force;
 use crate::ledger::Ledger;
 use crate::lent::Lent;
+use crate::panics::caught;
 use crate::reader::{self, Record};
 use crate::reasons::{self, Reason};
 use crate::snapshot::Snapshot;
@@ -38,6 +39,8 @@ pub enum Check {
     Ledger,
     /// The three rounds.
     Rounds,
+    /// A coordinator that panicked instead of answering.
+    Panic,
 }
 
 impl Fault {
@@ -62,6 +65,7 @@ pub struct Trial<S, R> {
     pub ledger: Ledger,
     pub force: Force,
     stored: Stored,
+    subject_before: S,
     before: Snapshot,
     after: Snapshot,
     reference_after: Snapshot,
@@ -92,6 +96,7 @@ impl<S: Coordinator, R: Coordinator> Trial<S, R> {
         let reference = R::start(start);
         let after = Snapshot::of(&subject);
         Trial {
+            subject_before: subject.clone(),
             subject,
             reference,
             ledger: Ledger::new(),
@@ -105,7 +110,13 @@ impl<S: Coordinator, R: Coordinator> Trial<S, R> {
         }
     }
 
+    /// The trial is of no use after a fault.
     pub fn step(&mut self, turn: &Turn) -> Result<Step<'_>, Fault> {
+        caught(move || self.try_turn(turn))?
+    }
+
+    fn try_turn(&mut self, turn: &Turn) -> Result<Step<'_>, Fault> {
+        self.subject_before.clone_from(&self.subject);
         let reply = self.serve(turn)?;
         mem::swap(&mut self.before, &mut self.after);
         self.after.take(&self.subject);
@@ -153,6 +164,9 @@ impl<S: Coordinator, R: Coordinator> Trial<S, R> {
         if reply.answer.is_refusal() {
             if let Some(what) = self.before.difference(&self.after) {
                 return Err(change(format!("a refusal changed the group: {what}")));
+            }
+            if self.subject != self.subject_before {
+                return Err(change("a refusal changed what no function shows".into()));
             }
         }
         if let Answer::Swept(removed) = reply.answer {

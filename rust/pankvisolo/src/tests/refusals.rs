@@ -1,5 +1,7 @@
 //! A refused event brings back the group that went in, field by field: every refusal of 01's table,
 //! of every function that gives it. `Group` relies on it, and so may a host in C.
+//!
+//! What comes back is what a `Group` has in tests, here and in other packages.
 
 use super::by_events::events;
 use crate::ffi::{self, Group, Id, Request, Seat, Served};
@@ -117,7 +119,7 @@ fn of_a_topic() {
 #[test]
 fn of_an_install() {
     let group = events().value;
-    let aimed = Group {
+    let with_target = Group {
         target_epoch: group.epoch,
         ..group
     };
@@ -125,7 +127,21 @@ fn of_an_install() {
     let of = |epoch, entries| move |group: &Group| ffi::install(group, epoch, entries, &mut []);
     refuses(&group, 1006, of(epoch, &[]));
     refuses(&group, 1004, of(epoch - 1, &[255; 1_024]));
-    refuses(&aimed, 1005, of(epoch, &[255; 1_024]));
+    refuses(&with_target, 1005, of(epoch, &[255; 1_024]));
     refuses(&group, 1006, of(epoch, &[31; 1_024]));
     refuses(&group, 1003, of(epoch, &[255; 1_024]));
+}
+
+/// A change in a place that is free shows in no function of a group, and in its value.
+#[test]
+fn what_comes_back_is_seen() {
+    let mut group = events();
+    let before = group.clone();
+    let mut served = ffi::sweep(&group.value, group.value.tick - 1, &mut []);
+    group.keep(&served);
+    assert!(group == before);
+    served.group.seats[31].id = STRANGER;
+    group.keep(&served);
+    assert!(group != before);
+    assert_eq!(group.member_at(31), None);
 }

@@ -6,6 +6,7 @@ mod bytes;
 mod mutant;
 mod numbers;
 mod order;
+mod panics;
 mod slots;
 
 use mutant::{mutate, Mutant, Mutation, Unchanged};

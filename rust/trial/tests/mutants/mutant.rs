@@ -79,6 +79,13 @@ impl Mutant {
     }
 }
 
+impl PartialEq for Mutant {
+    fn eq(&self, other: &Mutant) -> bool {
+        let kept = |of: &Mutant| (of.number, of.tick);
+        self.group == other.group && kept(self) == kept(other) && self.target == other.target
+    }
+}
+
 impl Coordinator for Mutant {
     fn fresh(tick: u32) -> Self {
         Mutant::new(Group::new(tick))

@@ -106,3 +106,29 @@ fn a_tick_set_at_a_refusal() {
     caught(&TicksAtRefusal);
     caught_on_both_sides(&TicksAtRefusal, Check::Change);
 }
+
+/// Changes at a refusal what shows only where the group handed back is compared as a value.
+struct ChangesHiddenAtRefusal;
+
+impl Mutation for ChangesHiddenAtRefusal {
+    fn install(
+        &self,
+        mutant: &mut Mutant,
+        epoch: i32,
+        entries: &[u8],
+        records: &mut [u8],
+    ) -> Reply {
+        let reply = Coordinator::install(&mut mutant.group, epoch, entries, records);
+        mutant.number += i32::from(is_refused(reply, 1005));
+        reply
+    }
+}
+
+#[test]
+fn what_nothing_shows_changed_at_a_refusal() {
+    let report = caught(&ChangesHiddenAtRefusal);
+    assert_eq!(report.fault.check, Check::Change);
+    // An install for a fresh group's epoch, which has its target.
+    assert_eq!(report.shortest.turns.len(), 1);
+    caught_on_both_sides(&ChangesHiddenAtRefusal, Check::Change);
+}
