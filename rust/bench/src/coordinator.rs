@@ -1,4 +1,4 @@
-//! What the two coordinators have in common: the names of shared/API.md, over types of their own.
+//! What the two coordinators have in common: the binding's names, over types of their own.
 
 use crate::event::{Beat, Event};
 

@@ -5,7 +5,7 @@
 use std::io::{self, IsTerminal, Write};
 use std::process::ExitCode;
 
-// The coordinator that runs the events; anything with the names of shared/API.md will do.
+// The coordinator that runs the events; anything with the binding's names will do.
 use pankvisolo as coordinator;
 
 mod answer;

@@ -1,5 +1,5 @@
-//! The names and signatures of the published API, on which hosts are built: this compiles only
-//! where every one of them is as it was published.
+//! The public names and signatures, on which hosts are built: this compiles only where every one of
+//! them is as written here.
 
 use std::fmt::Debug;
 

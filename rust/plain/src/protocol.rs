@@ -1,4 +1,4 @@
-//! What goes in and comes out: the shapes of shared/API.md.
+//! What goes in and comes out: the names and shapes of the binding.
 
 use crate::limits::HEARTBEAT_INTERVAL;
 use crate::refusal::Refusal;

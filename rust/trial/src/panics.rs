@@ -15,7 +15,7 @@ thread_local! {
 }
 
 /// What the call returns; where it panics, a fault in the words of the panic, which are not printed.
-/// What the call was changing is then not to be used any more.
+/// What the call was changing is of no use then.
 pub fn caught<T>(call: impl FnOnce() -> T) -> Result<T, Fault> {
     listen();
     let was_caught = IS_CAUGHT.replace(true);

@@ -1,4 +1,4 @@
-//! 01's worked cases and boundary pairs, for any crate that has the names of shared/API.md and is
+//! 01's worked cases and boundary pairs, for any crate that has the binding's names and is
 //! called `coordinator` at the root of the test.
 
 mod host;

@@ -85,10 +85,10 @@ fn a_list_written_beyond_its_slots() {
     caught_on_both_sides(&ClearsListRest, Check::Lent);
 }
 
-/// Wants a byte more than it writes.
-struct WantsByteMore;
+/// Wants more than it needs: refuses a heartbeat where this holds of the reply and what was lent.
+struct RefusesExact(fn(Reply, &[u8], &[u16]) -> bool);
 
-impl Mutation for WantsByteMore {
+impl Mutation for RefusesExact {
     fn heartbeat(
         &self,
         mutant: &mut Mutant,
@@ -99,7 +99,7 @@ impl Mutation for WantsByteMore {
         let mut copy = mutant.group.clone();
         let mut bytes = records.to_vec();
         let reply = Coordinator::heartbeat(&mut copy, beat, &mut bytes, &mut list.to_vec());
-        if reply.written > 0 && reply.written == records.len() {
+        if self.0(reply, records, list) {
             return refused(1003);
         }
         Coordinator::heartbeat(&mut mutant.group, beat, records, list)
@@ -108,33 +108,16 @@ impl Mutation for WantsByteMore {
 
 #[test]
 fn a_buffer_of_exact_length_refused() {
-    caught(&WantsByteMore);
-    caught_on_both_sides(&WantsByteMore, Check::Table);
-}
-
-/// Wants an entry more than it tells slots.
-struct WantsEntryMore;
-
-impl Mutation for WantsEntryMore {
-    fn heartbeat(
-        &self,
-        mutant: &mut Mutant,
-        beat: &Beat,
-        records: &mut [u8],
-        list: &mut [u16],
-    ) -> Reply {
-        let mut copy = mutant.group.clone();
-        let mut bytes = records.to_vec();
-        let reply = Coordinator::heartbeat(&mut copy, beat, &mut bytes, &mut list.to_vec());
-        if reply.answer.told() > 0 && reply.answer.told() == list.len() {
-            return refused(1003);
-        }
-        Coordinator::heartbeat(&mut mutant.group, beat, records, list)
-    }
+    const WANTS_BYTE_MORE: RefusesExact =
+        RefusesExact(|reply, records, _| reply.written > 0 && reply.written == records.len());
+    caught(&WANTS_BYTE_MORE);
+    caught_on_both_sides(&WANTS_BYTE_MORE, Check::Table);
 }
 
 #[test]
 fn a_list_of_exact_length_refused() {
-    caught(&WantsEntryMore);
-    caught_on_both_sides(&WantsEntryMore, Check::Table);
+    const WANTS_ENTRY_MORE: RefusesExact =
+        RefusesExact(|reply, _, list| reply.answer.told() > 0 && reply.answer.told() == list.len());
+    caught(&WANTS_ENTRY_MORE);
+    caught_on_both_sides(&WANTS_ENTRY_MORE, Check::Table);
 }
