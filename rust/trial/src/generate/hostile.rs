@@ -1,5 +1,5 @@
-//! Heartbeats from clients that mean no good, or never understood the protocol: near misses of
-//! right ones, mixed at will.
+//! Heartbeats from hostile clients, and from such as don't follow the protocol: near misses of right
+//! ones, mixed at random.
 
 use super::{ids, World};
 use crate::coordinator::Coordinator;

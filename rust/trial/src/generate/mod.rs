@@ -1,5 +1,5 @@
 //! Events for a run, made one at a time: a world of clients, an assignor, a broker's clock and
-//! people who mean no good. It looks at one coordinator's group, and never into the other's.
+//! hostile clients. It looks at one coordinator's group, and never into the other's.
 
 mod assignor;
 mod client;
