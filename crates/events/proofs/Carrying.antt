@@ -1,7 +1,7 @@
 -- What every event's code comes to at its end: a refusal changes nothing, and an effect that no row refuses is carried out if there is room.
 use Prim.Native.Nat.{ℕ, _≤_, _<_}
 use native.Mathlib.Omega.{arith}
-use mathlib.Core.Path.{_≡_, refl, ap, _∙_}
+use mathlib.Core.Path.{_≡_, refl, sym, ap, _∙_, subst}
 use mathlib.Core.Bool.{true, false}
 use mathlib.Core.List.{List, []}
 use lib.ListN.{length}
@@ -20,7 +20,7 @@ use Rattle.numbers.specs.Buffer.{Wrote}
 use Rattle.group.specs.declared.Group as S
 use Rattle.group.specs.View.{view}
 use Rattle.events.specs.declared.Outcome.{Outcome}
-use Rattle.events.specs.Outcomes.{took, carried, stepAs}
+use Rattle.events.specs.Outcomes.{took, RefusalKeeps, carried, stepAs}
 
 -- ---- refusals
 
@@ -30,6 +30,10 @@ denied why g b l = record { answer = Refused why; group = g; written = 0; buffer
 pub took-refused : {r : Outcome} {g : S.Group} {why : Refusal} (b l : List ℕ) → r ≡ record { group = g; answer = Refused why; written = 0 } → took r b l ≡ denied why (view g) b l
 unfolding took
 took-refused b l e = ap (λ (r : Outcome). took r b l) e
+
+-- the group that a refusal hands back is the very one that went in
+pub keeps-refused : {r : Outcome} {g : S.Group} {why : Refusal} → r ≡ record { group = g; answer = Refused why; written = 0 } → RefusalKeeps g r
+keeps-refused {r} {g} e = subst (λ (o : Outcome). RefusalKeeps g o) (sym e) refl
 
 -- ---- heartbeats are taken as the kind of their epoch
 
