@@ -6,7 +6,7 @@ ghost use Rattle.rules.specs.Event.{heartbeat};
 ghost use Rattle.rules.specs.Refusals.{invalid};
 ghost use Rattle.rules.specs.Step.{step};
 ghost use Rattle.group.specs.View.{view};
-ghost use Rattle.events.specs.Outcomes.{took, requestOf, stepAs};
+ghost use Rattle.events.specs.Outcomes.{took, RefusalKeeps, requestOf, stepAs};
 use events::Outcome;
 use events::Request;
 use events::refused;
@@ -18,7 +18,7 @@ use rules::Refusal;
 
 // A heartbeat with an epoch below -1: it is refused, and writes nothing.
 fn refuse_epoch(g: Group, b: Request) -> Outcome
-    ensures { λ r. ⌜ ((owned buffer l : List ℕ) → took r buffer l ≡ stepAs invalid (view g) (requestOf b owned) buffer l) ⌝ }
+    ensures { λ r. ⌜ RefusalKeeps g r × ((owned buffer l : List ℕ) → took r buffer l ≡ stepAs invalid (view g) (requestOf b owned) buffer l) ⌝ }
 {
     if ticks::goes_back(g.tick, b.tick) {
         return refused(g, Refusal::Clock);

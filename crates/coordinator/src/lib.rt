@@ -11,7 +11,7 @@ ghost use Rattle.rules.specs.Ledger.{SingleHolder};
 ghost use Rattle.rules.specs.Rounds.{ThreeRounds};
 ghost use Rattle.rules.specs.Theorems.{Theorems};
 ghost use Rattle.group.specs.View.{view};
-ghost use Rattle.events.specs.Outcomes.{took};
+ghost use Rattle.events.specs.Outcomes.{took, RefusalKeeps};
 ghost use Rattle.coordinator.specs.Runs.{RunsSingleHolder, RunsSettle};
 
 mod heartbeats; // heartbeats.rt: a heartbeat taken as what its epoch says
@@ -31,21 +31,21 @@ pub fn fresh(tick: u32) -> Group
 
 // Removes each member that has not been heard for the session timeout, or has slots to give back for longer than its rebalance timeout.
 pub fn sweep(g: Group, tick: u32, records: &mut [u8]) -> Outcome
-    ensures { λ r. ⌜ ((l : List ℕ) → took r (now (records .exit)) l ≡ step (view g) (E.sweep tick) (now (records .entry)) l) ⌝ }
+    ensures { λ r. ⌜ RefusalKeeps g r × ((l : List ℕ) → took r (now (records .exit)) l ≡ step (view g) (E.sweep tick) (now (records .entry)) l) ⌝ }
 {
     sweeping::sweep(g, tick, records)
 }
 
 // Makes a topic, or raises its count.
 pub fn topic(g: Group, number: u32, id: Id, count: u32, records: &mut [u8]) -> Outcome
-    ensures { λ r. ⌜ ((l : List ℕ) → took r (now (records .exit)) l ≡ step (view g) (E.topic number id count) (now (records .entry)) l) ⌝ }
+    ensures { λ r. ⌜ RefusalKeeps g r × ((l : List ℕ) → took r (now (records .exit)) l ≡ step (view g) (E.topic number id count) (now (records .entry)) l) ⌝ }
 {
     topics::topic(g, number, id, count, records)
 }
 
 // Installs a target: for each slot a place, or 255 for none.
 pub fn install(g: Group, epoch: i32, entries: &[u8], records: &mut [u8]) -> Outcome
-    ensures { λ r. ⌜ ((l : List ℕ) → took r (now (records .exit)) l ≡ step (view g) (E.install epoch (now (entries .entry))) (now (records .entry)) l) ⌝ }
+    ensures { λ r. ⌜ RefusalKeeps g r × ((l : List ℕ) → took r (now (records .exit)) l ≡ step (view g) (E.install epoch (now (entries .entry))) (now (records .entry)) l) ⌝ }
 {
     installing::install(g, epoch, entries, records)
 }

@@ -15,12 +15,13 @@ use Rattle.rules.specs.Effects.{Effect, effect}
 use Rattle.rules.specs.Step.{Stepped, step, verdict, carryOut, tooLittleRoom, overlay}
 use Rattle.rules.specs.declared.Refusal.{Refusal}
 use Rattle.rules.specs.declared.Refusal.the-variants.{Room}
+use Rattle.rules.specs.declared.Answer.{Answer}
 use Rattle.rules.specs.declared.Answer.the-variants.{Refused}
 use Rattle.numbers.specs.Buffer.{Wrote}
 use Rattle.group.specs.declared.Group as S
 use Rattle.group.specs.View.{view}
 use Rattle.events.specs.declared.Outcome.{Outcome}
-use Rattle.events.specs.Outcomes.{took, RefusalKeeps, carried, stepAs}
+use Rattle.events.specs.Outcomes.{took, SameIfRefused, RefusalKeeps, carried, stepAs}
 
 -- ---- refusals
 
@@ -34,6 +35,10 @@ took-refused b l e = ap (λ (r : Outcome). took r b l) e
 -- the group that a refusal hands back is the very one that went in
 pub keeps-refused : {r : Outcome} {g : S.Group} {why : Refusal} → r ≡ record { group = g; answer = Refused why; written = 0 } → RefusalKeeps g r
 keeps-refused {r} {g} e = subst (λ (o : Outcome). RefusalKeeps g o) (sym e) refl
+
+-- and of an answer that accepts nothing is asked
+pub keeps-answer : {a : Answer} (g : S.Group) (r : Outcome) → r .answer ≡ a → SameIfRefused a g (r .group) → RefusalKeeps g r
+keeps-answer g r e k = subst (λ (a : Answer). SameIfRefused a g (r .group)) (sym e) k
 
 -- ---- heartbeats are taken as the kind of their epoch
 

@@ -8,7 +8,7 @@ ghost use Rattle.rules.specs.Event as E;
 ghost use Rattle.rules.specs.Effects.{installEffect};
 ghost use Rattle.rules.specs.Step.{step};
 ghost use Rattle.group.specs.View.{view};
-ghost use Rattle.events.specs.Outcomes.{took, carried};
+ghost use Rattle.events.specs.Outcomes.{took, RefusalKeeps, carried};
 
 mod retargeting; // retargeting.rt: the records of an install
 
@@ -38,7 +38,7 @@ fn table_of(entries: &[u8]) -> [u8; SLOTS]
 
 // An install that no row of the table refuses: the target replaced, and T becomes G.
 fn install_at(g: Group, target: [u8; SLOTS], records: &mut [u8]) -> Outcome
-    ensures { λ r. ⌜ ((l : List ℕ) → took r (now (records .exit)) l ≡ carried (view g) (installEffect (view g) target) (now (records .entry)) l) ⌝ }
+    ensures { λ r. ⌜ RefusalKeeps g r × ((l : List ℕ) → took r (now (records .exit)) l ≡ carried (view g) (installEffect (view g) target) (now (records .entry)) l) ⌝ }
 {
     let tables = g.tables;
     let before = tables.target;
@@ -59,7 +59,7 @@ fn install_at(g: Group, target: [u8; SLOTS], records: &mut [u8]) -> Outcome
 
 // An install: an epoch, and for each slot a place or 255 for none. Writes the records to the start of the buffer and leaves the rest of it alone.
 pub fn install(g: Group, epoch: i32, entries: &[u8], records: &mut [u8]) -> Outcome
-    ensures { λ r. ⌜ ((l : List ℕ) → took r (now (records .exit)) l ≡ step (view g) (E.install epoch (now (entries .entry))) (now (records .entry)) l) ⌝ }
+    ensures { λ r. ⌜ RefusalKeeps g r × ((l : List ℕ) → took r (now (records .exit)) l ≡ step (view g) (E.install epoch (now (entries .entry))) (now (records .entry)) l) ⌝ }
 {
     if entries.len() != SLOTS {
         return refused(g, Refusal::BadTarget(Slot(NO_SLOT)));

@@ -5,7 +5,7 @@ ghost use Prim.Native.Nat.{ℕ};
 ghost use Rattle.rules.specs.Refusals.{leaves};
 ghost use Rattle.rules.specs.Effects.{leaveAt};
 ghost use Rattle.group.specs.View.{view};
-ghost use Rattle.events.specs.Outcomes.{took, requestOf, carried, stepAs};
+ghost use Rattle.events.specs.Outcomes.{took, RefusalKeeps, requestOf, carried, stepAs};
 use events::Outcome;
 use events::Request;
 use events::refused;
@@ -23,7 +23,7 @@ use rules::Refusal;
 
 // The member at a place leaves.
 fn leave_at(g: Group, p: Place, tick: u32, records: &mut [u8]) -> Outcome
-    ensures { λ r. ⌜ ((l : List ℕ) → took r (now (records .exit)) l ≡ carried (view g) (leaveAt (view g) (p .0) tick) (now (records .entry)) l) ⌝ }
+    ensures { λ r. ⌜ RefusalKeeps g r × ((l : List ℕ) → took r (now (records .exit)) l ≡ carried (view g) (leaveAt (view g) (p .0) tick) (now (records .entry)) l) ⌝ }
 {
     let tables = g.tables;
     let retargets = tables.has_target(p);
@@ -44,7 +44,7 @@ fn leave_at(g: Group, p: Place, tick: u32, records: &mut [u8]) -> Outcome
 
 // The member with the request's ID leaves; of the request only its ID and its tick are looked at.
 pub fn leave(g: Group, b: Request, records: &mut [u8]) -> Outcome
-    ensures { λ r. ⌜ ((owned l : List ℕ) → took r (now (records .exit)) l ≡ stepAs leaves (view g) (requestOf b owned) (now (records .entry)) l) ⌝ }
+    ensures { λ r. ⌜ RefusalKeeps g r × ((owned l : List ℕ) → took r (now (records .exit)) l ≡ stepAs leaves (view g) (requestOf b owned) (now (records .entry)) l) ⌝ }
 {
     let id = b.id;
     let tick = b.tick;

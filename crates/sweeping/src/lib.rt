@@ -13,7 +13,7 @@ ghost use Rattle.rules.specs.declared.Answer.the-variants.{Swept};
 ghost use Rattle.numbers.specs.Buffer.{Wrote};
 ghost use Rattle.group.specs.View.{view};
 ghost use Rattle.sweeping.specs.Marks.{marked, markedRecords};
-ghost use Rattle.events.specs.Outcomes.{took, carried};
+ghost use Rattle.events.specs.Outcomes.{took, RefusalKeeps, carried};
 
 mod overdue; // overdue.rt: which places a sweep removes
 
@@ -131,7 +131,7 @@ fn swept(g: Group, count: u32, epoch: u32, tick: u32, written: usize) -> Outcome
 // The members at the marked places go, of which there is at least one.
 fn sweep_some(g: Group, gone: [bool; MEMBERS], count: u32, tick: u32, records: &mut [u8]) -> Outcome
     requires { ⌜ (count ≡ length (marked gone)) × (1 ≤ count) ⌝ }
-    ensures { λ r. ⌜ ((l : List ℕ) → took r (now (records .exit)) l ≡ carried (view g) (sweepOf (view g) (marked gone) tick) (now (records .entry)) l) ⌝ }
+    ensures { λ r. ⌜ RefusalKeeps g r × ((l : List ℕ) → took r (now (records .exit)) l ≡ carried (view g) (sweepOf (view g) (marked gone) tick) (now (records .entry)) l) ⌝ }
 {
     let tables = g.tables;
     let targets = overdue::target_places(&tables.target);
@@ -148,7 +148,7 @@ fn sweep_some(g: Group, gone: [bool; MEMBERS], count: u32, tick: u32, records: &
 
 // The members at the marked places go. Where there is none, only the tick changes.
 fn sweep_marked(g: Group, gone: [bool; MEMBERS], tick: u32, records: &mut [u8]) -> Outcome
-    ensures { λ r. ⌜ ((l : List ℕ) → took r (now (records .exit)) l ≡ carried (view g) (sweepOf (view g) (marked gone) tick) (now (records .entry)) l) ⌝ }
+    ensures { λ r. ⌜ RefusalKeeps g r × ((l : List ℕ) → took r (now (records .exit)) l ≡ carried (view g) (sweepOf (view g) (marked gone) tick) (now (records .entry)) l) ⌝ }
 {
     let count = count_marks(gone);
     if count == 0 {
@@ -159,7 +159,7 @@ fn sweep_marked(g: Group, gone: [bool; MEMBERS], tick: u32, records: &mut [u8]) 
 
 // A sweep at a tick. The records go to the start of the buffer.
 pub fn sweep(g: Group, tick: u32, records: &mut [u8]) -> Outcome
-    ensures { λ r. ⌜ ((l : List ℕ) → took r (now (records .exit)) l ≡ step (view g) (E.sweep tick) (now (records .entry)) l) ⌝ }
+    ensures { λ r. ⌜ RefusalKeeps g r × ((l : List ℕ) → took r (now (records .exit)) l ≡ step (view g) (E.sweep tick) (now (records .entry)) l) ⌝ }
 {
     if ticks::goes_back(g.tick, tick) {
         return refused(g, Refusal::Clock);

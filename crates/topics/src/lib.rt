@@ -8,7 +8,7 @@ ghost use Rattle.rules.specs.Refusals.{topicBad, topicRaises, atEnd};
 ghost use Rattle.rules.specs.Effects.{topicEffect};
 ghost use Rattle.rules.specs.Step.{step};
 ghost use Rattle.group.specs.View.{view};
-ghost use Rattle.events.specs.Outcomes.{took, carried};
+ghost use Rattle.events.specs.Outcomes.{took, RefusalKeeps, carried};
 use events::Outcome;
 use events::refused;
 use group::Group;
@@ -22,7 +22,7 @@ use rules::Refusal;
 // A topic that no row refuses; `raises`: the group epoch rises.
 fn topic_at(g: Group, number: u32, id: Id, count: u32, raises: bool, records: &mut [u8]) -> Outcome
     requires { ⌜ (topicBad (view g) number id count ≡ false) × (raises ≡ topicRaises (view g) number count) × ((topicRaises (view g) number count && atEnd (view g)) ≡ false) ⌝ }
-    ensures { λ r. ⌜ ((l : List ℕ) → took r (now (records .exit)) l ≡ carried (view g) (topicEffect (view g) number id count) (now (records .entry)) l) ⌝ }
+    ensures { λ r. ⌜ RefusalKeeps g r × ((l : List ℕ) → took r (now (records .exit)) l ≡ carried (view g) (topicEffect (view g) number id count) (now (records .entry)) l) ⌝ }
 {
     let changes = group::topics::topic_changes(g, number, count);
     let epoch = epochs::epoch_after(g.epoch, raises);
@@ -40,7 +40,7 @@ fn topic_at(g: Group, number: u32, id: Id, count: u32, raises: bool, records: &m
 
 // The topic of a number, with its ID and its count. The records go to the start of the buffer.
 pub fn topic(g: Group, number: u32, id: Id, count: u32, records: &mut [u8]) -> Outcome
-    ensures { λ r. ⌜ ((l : List ℕ) → took r (now (records .exit)) l ≡ step (view g) (E.topic number id count) (now (records .entry)) l) ⌝ }
+    ensures { λ r. ⌜ RefusalKeeps g r × ((l : List ℕ) → took r (now (records .exit)) l ≡ step (view g) (E.topic number id count) (now (records .entry)) l) ⌝ }
 {
     if group::topics::is_bad_topic(g, number, id, count) {
         return refused(g, Refusal::BadTopic);

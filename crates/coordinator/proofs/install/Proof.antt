@@ -11,7 +11,8 @@ same-length : tie.Need-same-length
 same-length c = search needs
 
 returns : tie.Need-returns
-returns c = λ l. rw (toZ-ofZ (c .before .before .before .before .before .before .fits .epoch)) at (c .before .before .install .ensures l)
+returns c =
+    (c .before .before .install .ensures .0, λ l. rw (toZ-ofZ (c .before .before .before .before .before .before .fits .epoch)) at (c .before .before .install .ensures .1 l))
 
 pub install-spec : {M : Type 1} → statement M
 install-spec = tie.close (tie.spec install-requires same-length returns)

@@ -14,7 +14,7 @@ use Rattle.rules.specs.Refusals.{isEpoch}
 use Rattle.rules.specs.Effects.{installEffect}
 use Rattle.group.specs.View.{view}
 use Rattle.events.specs.Outcomes.{carried}
-use Rattle.events.proofs.Carrying.{took-refused}
+use Rattle.events.proofs.Carrying.{took-refused, keeps-refused}
 use Rattle.rules.proofs.Lists.{not-is-false, not-is-true}
 use Rattle.installing.proofs.Installs.{install-short, install-stale, install-already, install-bad, install-step}
 use Rattle.installing.proofs.install.Statement.{statement}
@@ -40,10 +40,12 @@ refused-requires : tie.Need-refused-requires
 refused-requires c κs = tt
 
 returns : tie.Need-returns
-returns c =
-    λ l.
-    let a = c .before .before .before .before .args in
-    took-refused (a .records .now) l (c .refused .ensures) ∙ sym (install-short (view (a .g)) (a .epoch) (a .entries .now) (a .records .now) l (ne-eqb _ _ (c .before .if1 .taken)))
+returns c = (
+  keeps-refused (c .refused .ensures),
+  λ l.
+      let a = c .before .before .before .before .args in
+      took-refused (a .records .now) l (c .refused .ensures) ∙ sym (install-short (view (a .g)) (a .epoch) (a .entries .now) (a .records .now) l (ne-eqb _ _ (c .before .if1 .taken))),
+)
 
 is-epoch-requires : tie.Need-is-epoch-requires
 is-epoch-requires c κs = tt
@@ -52,22 +54,26 @@ refused-requires-2 : tie.Need-refused-requires-2
 refused-requires-2 c κs = tt
 
 returns-2 : tie.Need-returns-2
-returns-2 c =
-    λ l.
-    let a = c .before .before .before .before .before .before .args in
-    took-refused (a .records .now) l (c .refused2 .ensures)
-    ∙ sym (install-stale (view (a .g)) (a .epoch) (a .entries .now) (a .records .now) l (whole (c .before .before .before)) (sym (told (c .before .before)) ∙ not-is-true _ (c .before .if2 .taken)))
+returns-2 c = (
+  keeps-refused (c .refused2 .ensures),
+  λ l.
+      let a = c .before .before .before .before .before .before .args in
+      took-refused (a .records .now) l (c .refused2 .ensures)
+      ∙ sym (install-stale (view (a .g)) (a .epoch) (a .entries .now) (a .records .now) l (whole (c .before .before .before)) (sym (told (c .before .before)) ∙ not-is-true _ (c .before .if2 .taken))),
+)
 
 refused-requires-3 : tie.Need-refused-requires-3
 refused-requires-3 c κs = tt
 
 returns-3 : tie.Need-returns-3
 unfolding view
-returns-3 c =
-    λ l.
-    let a = c .before .before .before .before .before .before .before .before .args in
-    took-refused (a .records .now) l (c .refused3 .ensures)
-    ∙ sym (install-already (view (a .g)) (a .epoch) (a .entries .now) (a .records .now) l (whole (c .before .before .before .before .before)) (current (c .before .before .before)) (eq-eqb _ _ (c .before .if3 .taken)))
+returns-3 c = (
+  keeps-refused (c .refused3 .ensures),
+  λ l.
+      let a = c .before .before .before .before .before .before .before .before .args in
+      took-refused (a .records .now) l (c .refused3 .ensures)
+      ∙ sym (install-already (view (a .g)) (a .epoch) (a .entries .now) (a .records .now) l (whole (c .before .before .before .before .before)) (current (c .before .before .before)) (eq-eqb _ _ (c .before .if3 .taken))),
+)
 
 first-bad-requires : tie.Need-first-bad-requires
 first-bad-requires c κs = tt
@@ -79,11 +85,13 @@ refused-requires-4 : tie.Need-refused-requires-4
 refused-requires-4 c κs = tt
 
 returns-4 : tie.Need-returns-4
-returns-4 c =
-    λ l.
-    let a = c .before .before .before .before .before .before .before .before .before .before .args in
-    took-refused (a .records .now) l (c .refused4 .ensures)
-    ∙ sym (install-bad (view (a .g)) (a .epoch) (a .entries .now) (a .records .now) l (whole (c .before .before .before .before .before .before .before)) (current (c .before .before .before .before .before)) (pending (c .before .before .before)) (c .before .before .first-bad .ensures) (c .before .if4 .taken))
+returns-4 c = (
+  keeps-refused (c .refused4 .ensures),
+  λ l.
+      let a = c .before .before .before .before .before .before .before .before .before .before .args in
+      took-refused (a .records .now) l (c .refused4 .ensures)
+      ∙ sym (install-bad (view (a .g)) (a .epoch) (a .entries .now) (a .records .now) l (whole (c .before .before .before .before .before .before .before)) (current (c .before .before .before .before .before)) (pending (c .before .before .before)) (c .before .before .first-bad .ensures) (c .before .if4 .taken)),
+)
 
 table-of-requires : tie.Need-table-of-requires
 table-of-requires c κs = c .before .before .before .before .before .before .if1 .left
@@ -95,12 +103,14 @@ same-length : tie.Need-same-length
 same-length c = search needs
 
 returns-5 : tie.Need-returns-5
-returns-5 c =
-    λ l.
-    let a = c .before .before .before .before .before .before .before .before .before .before .before .before .before .before .args in
-    c .before .before .install-at .ensures l
-    ∙ ap (λ (es : List ℕ). carried (view (a .g)) (installEffect (view (a .g)) es) (a .records .now) l) (c .before .before .before .before .table-of .ensures)
-    ∙ sym (install-step (view (a .g)) (a .epoch) (a .entries .now) (a .records .now) l (whole (c .before .before .before .before .before .before .before .before .before .before .before)) (current (c .before .before .before .before .before .before .before .before .before)) (pending (c .before .before .before .before .before .before .before)) (c .before .before .before .before .before .before .first-bad .ensures) (c .before .before .before .before .before .if4 .left))
+returns-5 c = (
+  c .before .before .install-at .ensures .0,
+  λ l.
+      let a = c .before .before .before .before .before .before .before .before .before .before .before .before .before .before .args in
+      c .before .before .install-at .ensures .1 l
+      ∙ ap (λ (es : List ℕ). carried (view (a .g)) (installEffect (view (a .g)) es) (a .records .now) l) (c .before .before .before .before .table-of .ensures)
+      ∙ sym (install-step (view (a .g)) (a .epoch) (a .entries .now) (a .records .now) l (whole (c .before .before .before .before .before .before .before .before .before .before .before)) (current (c .before .before .before .before .before .before .before .before .before)) (pending (c .before .before .before .before .before .before .before)) (c .before .before .before .before .before .before .first-bad .ensures) (c .before .before .before .before .before .if4 .left)),
+)
 
 pub install-spec : {M : Type 1} → statement M
 install-spec =

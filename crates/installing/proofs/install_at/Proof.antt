@@ -9,6 +9,7 @@ use Rattle.rules.specs.Effects.{installRecords, installEffect}
 use Rattle.rules.specs.declared.Answer.the-variants.{Done}
 use Rattle.group.specs.View.{view}
 use Rattle.installing.specs.Targets.{unheld}
+use Rattle.events.proofs.Carrying.{keeps-refused}
 use Rattle.events.proofs.Storing.{too-long, stored}
 use Rattle.installing.proofs.Installs.{install-records, install-group}
 use Rattle.installing.proofs.install_at.Statement.{statement}
@@ -34,11 +35,13 @@ refused-requires : tie.Need-refused-requires
 refused-requires c κs = tt
 
 returns : tie.Need-returns
-returns c =
-    λ l.
-    let x = c .before .before .before .before .before .before .before .before .before .before .before in
-    let a = x .args in
-    too-long (installEffect (view (a .g)) (a .t2)) (records-are x) (a .records .now) l (omega (arith, c .before .before .install-len .ensures, c .before .if1 .taken)) (c .refused .ensures)
+returns c = (
+  keeps-refused (c .refused .ensures),
+  λ l.
+      let x = c .before .before .before .before .before .before .before .before .before .before .before in
+      let a = x .args in
+      too-long (installEffect (view (a .g)) (a .t2)) (records-are x) (a .records .now) l (omega (arith, c .before .before .install-len .ensures, c .before .if1 .taken)) (c .refused .ensures),
+)
 
 put-install-requires : tie.Need-put-install-requires
 put-install-requires c κs = (c .before .before .before .before .before .before .before .changed-places .ensures, omega (arith, c .before .before .before .before .install-len .ensures, c .before .before .before .if1 .left))
@@ -54,16 +57,18 @@ same-length c = search needs
 
 returns-2 : tie.Need-returns-2
 unfolding installEffect
-returns-2 c =
-    λ l.
-    let x = c .before .before .before .before .before .before .before .before .before .before .before .before .before .before .before .before .before .before in
-    let a = x .args in
-    let put = c .before .before .before .before .put-install in
-    stored (installEffect (view (a .g)) (a .t2)) (records-are x) (a .records .now) l (view (a .g)) (record { group = c .with-target .result; answer = Done; written = put .result }) refl
-    (omega (arith, c .before .before .before .before .before .before .before .before .before .install-len .ensures, c .before .before .before .before .before .before .before .before .if1 .left))
-    refl
-    (install-group (a .g) (a .t2) (c .with-target .result) (c .before .retarget .ensures) (c .with-target .ensures))
-    (put .ensures)
+returns-2 c = (
+  tt,
+  λ l.
+      let x = c .before .before .before .before .before .before .before .before .before .before .before .before .before .before .before .before .before .before in
+      let a = x .args in
+      let put = c .before .before .before .before .put-install in
+      stored (installEffect (view (a .g)) (a .t2)) (records-are x) (a .records .now) l (view (a .g)) (record { group = c .with-target .result; answer = Done; written = put .result }) refl
+      (omega (arith, c .before .before .before .before .before .before .before .before .before .install-len .ensures, c .before .before .before .before .before .before .before .before .if1 .left))
+      refl
+      (install-group (a .g) (a .t2) (c .with-target .result) (c .before .retarget .ensures) (c .with-target .ensures))
+      (put .ensures),
+)
 
 pub install-at-spec : {M : Type 1} → statement M
 install-at-spec =

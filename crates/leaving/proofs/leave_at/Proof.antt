@@ -7,6 +7,7 @@ use Rattle.rules.specs.Effects.{leaveRecords, leaveAt}
 use Rattle.rules.specs.declared.Answer.the-variants.{Left}
 use Rattle.group.specs.View.{view}
 use Rattle.leaving.proofs.LeaveRows.{leave-records, leave-group}
+use Rattle.events.proofs.Carrying.{keeps-refused}
 use Rattle.events.proofs.Storing.{too-long, stored}
 use Rattle.leaving.proofs.leave_at.Statement.{statement}
 use Rattle.leaving.proofs.leave_at.Tie as tie
@@ -38,11 +39,13 @@ refused-requires : tie.Need-refused-requires
 refused-requires c κs = tt
 
 returns : tie.Need-returns
-returns c =
-    λ l.
-    let a = c .before .before .before .before .before .before .before .before .args in
-    too-long (leaveAt (view (a .g)) (a .p .0) (a .tick)) (recorded (c .before .before)) (a .records .now) l
-    (omega (arith, c .before .before .leave-records-len .ensures .0, c .before .if1 .taken)) (c .refused .ensures)
+returns c = (
+  keeps-refused (c .refused .ensures),
+  λ l.
+      let a = c .before .before .before .before .before .before .before .before .args in
+      too-long (leaveAt (view (a .g)) (a .p .0) (a .tick)) (recorded (c .before .before)) (a .records .now) l
+      (omega (arith, c .before .before .leave-records-len .ensures .0, c .before .if1 .taken)) (c .refused .ensures),
+)
 
 put-leave-records-requires : tie.Need-put-leave-records-requires
 put-leave-records-requires c κs = omega (arith, c .before .before .leave-records-len .ensures .0, c .before .if1 .left)
@@ -58,15 +61,17 @@ same-length c = search needs
 
 returns-2 : tie.Need-returns-2
 unfolding leaveAt
-returns-2 c =
-    λ l.
-    let a = c .before .before .before .before .before .before .before .before .before .before .before .before .before .args in
-    stored (leaveAt (view (a .g)) (a .p .0) (a .tick)) (recorded (c .before .before .before .before .before .before .before)) (a .records .now) l (view (a .g))
-    (record { group = c .stamped .result; answer = Left; written = c .before .before .before .before .put-leave-records .result }) refl
-    (omega (arith, c .before .before .before .before .before .before .before .leave-records-len .ensures .0, c .before .before .before .before .before .before .if1 .left)) refl
-    (leave-group (a .g) (a .p .0) (a .tick) (c .before .before .before .before .before .before .before .before .raised-epoch .ensures)
-    (c .before .remove-member .result) (c .stamped .result) (c .before .remove-member .ensures) (c .stamped .ensures))
-    (c .before .before .before .before .put-leave-records .ensures)
+returns-2 c = (
+  tt,
+  λ l.
+      let a = c .before .before .before .before .before .before .before .before .before .before .before .before .before .args in
+      stored (leaveAt (view (a .g)) (a .p .0) (a .tick)) (recorded (c .before .before .before .before .before .before .before)) (a .records .now) l (view (a .g))
+      (record { group = c .stamped .result; answer = Left; written = c .before .before .before .before .put-leave-records .result }) refl
+      (omega (arith, c .before .before .before .before .before .before .before .leave-records-len .ensures .0, c .before .before .before .before .before .before .if1 .left)) refl
+      (leave-group (a .g) (a .p .0) (a .tick) (c .before .before .before .before .before .before .before .before .raised-epoch .ensures)
+      (c .before .remove-member .result) (c .stamped .result) (c .before .remove-member .ensures) (c .stamped .ensures))
+      (c .before .before .before .before .put-leave-records .ensures),
+)
 
 pub leave-at-spec : {M : Type 1} → statement M
 leave-at-spec =

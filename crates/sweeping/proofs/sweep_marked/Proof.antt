@@ -2,6 +2,7 @@
 use native.Mathlib.Omega.{arith}
 use mathlib.Core.Path.{sym, _∙_}
 use Rattle.sweeping.specs.Marks.{marked}
+use Rattle.events.proofs.Carrying.{keeps-answer}
 use Rattle.sweeping.proofs.SweepRows.{sweep-nobody}
 use Rattle.sweeping.proofs.sweep_marked.Statement.{statement}
 use Rattle.sweeping.proofs.sweep_marked.Tie as tie
@@ -13,11 +14,13 @@ swept-requires : tie.Need-swept-requires
 swept-requires c κs = tt
 
 returns : tie.Need-returns
-returns c =
-    λ l.
-    let a = c .before .before .before .before .args in
-    let r = c .swept .ensures in
-    sweep-nobody (a .g) (a .tick) (c .swept .result) (a .records .now) l (marked (a .gone)) (sym (c .before .before .count-marks .ensures) ∙ c .before .if1 .taken) (r .0) (r .1) (r .2)
+returns c = (
+  keeps-answer _ (c .swept .result) (c .swept .ensures .1) tt,
+  λ l.
+      let a = c .before .before .before .before .args in
+      let r = c .swept .ensures in
+      sweep-nobody (a .g) (a .tick) (c .swept .result) (a .records .now) l (marked (a .gone)) (sym (c .before .before .count-marks .ensures) ∙ c .before .if1 .taken) (r .0) (r .1) (r .2),
+)
 
 sweep-some-requires : tie.Need-sweep-some-requires
 sweep-some-requires c κs = (c .before .before .count-marks .ensures, omega (arith, c .before .if1 .left))

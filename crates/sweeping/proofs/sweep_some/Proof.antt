@@ -13,6 +13,7 @@ use Rattle.numbers.specs.Buffer.{Wrote}
 use Rattle.tables.specs.View.{viewTables}
 use Rattle.group.specs.View.{view}
 use Rattle.sweeping.specs.Marks.{marked, markedRecords}
+use Rattle.events.proofs.Carrying.{keeps-refused, keeps-answer}
 use Rattle.events.proofs.Storing.{too-long, stored}
 use Rattle.sweeping.proofs.SweepRows.{sweep-records, sweep-group}
 use Rattle.sweeping.proofs.sweep_some.Statement.{statement}
@@ -50,11 +51,13 @@ refused-requires : tie.Need-refused-requires
 refused-requires c κs = tt
 
 returns : tie.Need-returns
-returns c =
-    λ l.
-    let a = c .before .before .before .before .before .before .before .before .before .before .args in
-    too-long (sweepOf (view (a .g)) (marked (a .gone)) (a .tick)) (recorded (c .before .before)) (a .records .now) l
-    (omega (arith, c .before .before .sweep-len .ensures, c .before .if1 .taken)) (c .refused .ensures)
+returns c = (
+  keeps-refused (c .refused .ensures),
+  λ l.
+      let a = c .before .before .before .before .before .before .before .before .before .before .args in
+      too-long (sweepOf (view (a .g)) (marked (a .gone)) (a .tick)) (recorded (c .before .before)) (a .records .now) l
+      (omega (arith, c .before .before .sweep-len .ensures, c .before .if1 .taken)) (c .refused .ensures),
+)
 
 put-sweep-requires : tie.Need-put-sweep-requires
 put-sweep-requires c κs = omega (arith, c .before .before .sweep-len .ensures, c .before .if1 .left)
@@ -70,17 +73,19 @@ same-length c = omega arith
 
 returns-2 : tie.Need-returns-2
 unfolding sweepOf
-returns-2 c =
-    λ l.
-    let a = c .before .before .before .before .before .before .before .before .before .before .before .before .before .before .before .args in
-    let n = c .before .before .before .before .before .before .before .before .before .before .before .before .before .before .before .pre in
-    let r = c .swept .ensures in
-    stored (sweepOf (view (a .g)) (marked (a .gone)) (a .tick)) (recorded (c .before .before .before .before .before .before .before)) (a .records .now) l (view (a .g)) (c .swept .result) refl
-    (omega (arith, c .before .before .before .before .before .before .before .sweep-len .ensures, c .before .before .before .before .before .before .if1 .left))
-    (r .1 ∙ ap Swept (n .0))
-    (sweep-group (a .g) (a .gone) (a .tick) (omega (arith, n .0, n .1)) (c .before .before .before .before .before .before .before .before .raised-epoch .ensures)
-    (c .before .remove-marked .result) (c .swept .result .group) (c .before .remove-marked .ensures) (r .0))
-    (subst (Wrote _ (a .records .now) (c .before .before .before .before .put-sweep .last .0)) (sym (r .2)) (c .before .before .before .before .put-sweep .ensures))
+returns-2 c = (
+  keeps-answer _ (c .swept .result) (c .swept .ensures .1) tt,
+  λ l.
+      let a = c .before .before .before .before .before .before .before .before .before .before .before .before .before .before .before .args in
+      let n = c .before .before .before .before .before .before .before .before .before .before .before .before .before .before .before .pre in
+      let r = c .swept .ensures in
+      stored (sweepOf (view (a .g)) (marked (a .gone)) (a .tick)) (recorded (c .before .before .before .before .before .before .before)) (a .records .now) l (view (a .g)) (c .swept .result) refl
+      (omega (arith, c .before .before .before .before .before .before .before .sweep-len .ensures, c .before .before .before .before .before .before .if1 .left))
+      (r .1 ∙ ap Swept (n .0))
+      (sweep-group (a .g) (a .gone) (a .tick) (omega (arith, n .0, n .1)) (c .before .before .before .before .before .before .before .before .raised-epoch .ensures)
+      (c .before .remove-marked .result) (c .swept .result .group) (c .before .remove-marked .ensures) (r .0))
+      (subst (Wrote _ (a .records .now) (c .before .before .before .before .put-sweep .last .0)) (sym (r .2)) (c .before .before .before .before .put-sweep .ensures)),
+)
 
 pub sweep-some-spec : {M : Type 1} → statement M
 sweep-some-spec =

@@ -4,7 +4,7 @@ use mathlib.Core.Path.{_≡_, sym, _∙_}
 use borrow.Author.Needs.{needs}
 use Rattle.rules.specs.Refusals.{topicBad, topicRaises, atEnd}
 use Rattle.group.specs.View.{view}
-use Rattle.events.proofs.Carrying.{took-refused}
+use Rattle.events.proofs.Carrying.{took-refused, keeps-refused}
 use Rattle.topics.proofs.TopicRows.{row-bad, row-end, topic-step, topic-end}
 use Rattle.topics.proofs.topic.Statement.{statement}
 use Rattle.topics.proofs.topic.Tie as tie
@@ -26,11 +26,13 @@ refused-requires : tie.Need-refused-requires
 refused-requires c κs = tt
 
 returns : tie.Need-returns
-returns c =
-    λ l.
-    let a = c .before .before .before .before .args in
-    took-refused (a .records .now) l (c .refused .ensures)
-    ∙ sym (row-bad (view (a .g)) (a .number) (a .id) (a .count) (a .records .now) l (sym (c .before .before .is-bad-topic .ensures) ∙ c .before .if1 .taken))
+returns c = (
+  keeps-refused (c .refused .ensures),
+  λ l.
+      let a = c .before .before .before .before .args in
+      took-refused (a .records .now) l (c .refused .ensures)
+      ∙ sym (row-bad (view (a .g)) (a .number) (a .id) (a .count) (a .records .now) l (sym (c .before .before .is-bad-topic .ensures) ∙ c .before .if1 .taken)),
+)
 
 topic-raises-requires : tie.Need-topic-raises-requires
 topic-raises-requires c κs = tt
@@ -42,12 +44,14 @@ refused-requires-2 : tie.Need-refused-requires-2
 refused-requires-2 c κs = tt
 
 returns-2 : tie.Need-returns-2
-returns-2 c =
-    λ l.
-    let a = c .before .before .before .before .before .before .before .args in
-    took-refused (a .records .now) l (c .refused2 .ensures)
-    ∙ sym (row-end (view (a .g)) (a .number) (a .id) (a .count) (a .records .now) l (good (c .before .before .before .before))
-    (topic-end (a .g) (a .number) (a .count) (c .before .before .before .topic-raises .ensures) (sym (c .before .before .past-end .ensures) ∙ c .before .if2 .taken)))
+returns-2 c = (
+  keeps-refused (c .refused2 .ensures),
+  λ l.
+      let a = c .before .before .before .before .before .before .before .args in
+      took-refused (a .records .now) l (c .refused2 .ensures)
+      ∙ sym (row-end (view (a .g)) (a .number) (a .id) (a .count) (a .records .now) l (good (c .before .before .before .before))
+      (topic-end (a .g) (a .number) (a .count) (c .before .before .before .topic-raises .ensures) (sym (c .before .before .past-end .ensures) ∙ c .before .if2 .taken))),
+)
 
 topic-at-requires : tie.Need-topic-at-requires
 topic-at-requires c κs = (good (c .before .before .before .before), c .before .before .before .topic-raises .ensures, not-past (c .before))
@@ -56,11 +60,13 @@ same-length : tie.Need-same-length
 same-length c = search needs
 
 returns-3 : tie.Need-returns-3
-returns-3 c =
-    λ l.
-    let a = c .before .before .before .before .before .before .before .before .before .before .args in
-    c .before .before .topic-at .ensures l ∙ sym (topic-step (view (a .g)) (a .number) (a .id) (a .count) (a .records .now) l
-    (good (c .before .before .before .before .before .before .before)) (not-past (c .before .before .before .before)))
+returns-3 c = (
+  c .before .before .topic-at .ensures .0,
+  λ l.
+      let a = c .before .before .before .before .before .before .before .before .before .before .args in
+      c .before .before .topic-at .ensures .1 l ∙ sym (topic-step (view (a .g)) (a .number) (a .id) (a .count) (a .records .now) l
+      (good (c .before .before .before .before .before .before .before)) (not-past (c .before .before .before .before))),
+)
 
 pub topic-spec : {M : Type 1} → statement M
 topic-spec =

@@ -7,6 +7,7 @@ use Rattle.rules.specs.declared.Answer.the-variants.{Done}
 use Rattle.group.proofs.Rows.{topic-good}
 use Rattle.group.proofs.Views.{entry-topic}
 use Rattle.group.specs.View.{view}
+use Rattle.events.proofs.Carrying.{keeps-refused}
 use Rattle.events.proofs.Storing.{too-long, stored}
 use Rattle.topics.proofs.TopicRows.{topic-records, topic-group}
 use Rattle.topics.proofs.topic_at.Statement.{statement}
@@ -37,11 +38,13 @@ refused-requires : tie.Need-refused-requires
 refused-requires c κs = tt
 
 returns : tie.Need-returns
-returns c =
-    λ l.
-    let a = c .before .before .before .before .before .before .args in
-    too-long (topicEffect (view (a .g)) (a .number) (a .id) (a .count)) (recorded (c .before .before)) (a .records .now) l
-    (omega (arith, c .before .before .topic-records-len .ensures .0, c .before .if1 .taken)) (c .refused .ensures)
+returns c = (
+  keeps-refused (c .refused .ensures),
+  λ l.
+      let a = c .before .before .before .before .before .before .args in
+      too-long (topicEffect (view (a .g)) (a .number) (a .id) (a .count)) (recorded (c .before .before)) (a .records .now) l
+      (omega (arith, c .before .before .topic-records-len .ensures .0, c .before .if1 .taken)) (c .refused .ensures),
+)
 
 put-topic-records-requires : tie.Need-put-topic-records-requires
 put-topic-records-requires c κs = omega (arith, c .before .before .topic-records-len .ensures .0, c .before .if1 .left)
@@ -59,17 +62,19 @@ same-length c = search needs
 
 returns-2 : tie.Need-returns-2
 unfolding topicEffect
-returns-2 c =
-    λ l.
-    let a = c .before .before .before .before .before .before .before .before .before .before .args in
-    let n = c .before .before .before .before .before .before .before .before .before .before .pre in
-    let v = c .with-topic .ensures ∙ entry-topic (view (a .g)) (a .number) (a .id) (a .count) (c .before .before .before .before .before .before .before .epoch-after .result) (topic-good (view (a .g)) (a .number) (a .id) (a .count) (n .0) .1) in
-    stored (topicEffect (view (a .g)) (a .number) (a .id) (a .count)) (recorded (c .before .before .before .before .before .before)) (a .records .now) l (view (a .g))
-    (record { group = c .with-topic .result; answer = Done; written = c .before .before .before .put-topic-records .result }) refl
-    (omega (arith, c .before .before .before .before .before .before .topic-records-len .ensures .0, c .before .before .before .before .before .if1 .left)) refl
-    (topic-group (a .g) (a .number) (a .id) (a .count) (c .before .before .before .before .before .before .before .before .topic-changes .ensures) (n .1) (n .2) (c .before .before .before .before .before .before .before .epoch-after .ensures)
-    (c .with-topic .result) v)
-    (c .before .before .before .put-topic-records .ensures)
+returns-2 c = (
+  tt,
+  λ l.
+      let a = c .before .before .before .before .before .before .before .before .before .before .args in
+      let n = c .before .before .before .before .before .before .before .before .before .before .pre in
+      let v = c .with-topic .ensures ∙ entry-topic (view (a .g)) (a .number) (a .id) (a .count) (c .before .before .before .before .before .before .before .epoch-after .result) (topic-good (view (a .g)) (a .number) (a .id) (a .count) (n .0) .1) in
+      stored (topicEffect (view (a .g)) (a .number) (a .id) (a .count)) (recorded (c .before .before .before .before .before .before)) (a .records .now) l (view (a .g))
+      (record { group = c .with-topic .result; answer = Done; written = c .before .before .before .put-topic-records .result }) refl
+      (omega (arith, c .before .before .before .before .before .before .topic-records-len .ensures .0, c .before .before .before .before .before .if1 .left)) refl
+      (topic-group (a .g) (a .number) (a .id) (a .count) (c .before .before .before .before .before .before .before .before .topic-changes .ensures) (n .1) (n .2) (c .before .before .before .before .before .before .before .epoch-after .ensures)
+      (c .with-topic .result) v)
+      (c .before .before .before .put-topic-records .ensures),
+)
 
 pub topic-at-spec : {M : Type 1} → statement M
 topic-at-spec =

@@ -74,13 +74,13 @@ returns-2 : tie.Need-returns-2
 unfolding viewKind
 returns-2 c =
     let a = c .before .before .before .before .before .before .before .before .before .before .before .args in
-    by-kind (c .before .before .before .before .before .before) (c .before .before .before .before .enum-told2 .given .1) (c .before .before .leave .ensures (a .owned .now) (a .list .now))
+    by-kind (c .before .before .before .before .before .before) (c .before .before .before .before .enum-told2 .given .1) (c .before .before .leave .ensures .1 (a .owned .now) (a .list .now))
 
 returns-3 : tie.Need-returns-3
 unfolding viewKind
 returns-3 c =
     let a = c .before .before .before .before .before .before .before .before .args in
-    by-kind (c .before .before .before) (c .before .enum-told3 .given .1) (c .refuse-epoch .ensures (a .owned .now) (a .records .now) (a .list .now))
+    by-kind (c .before .before .before) (c .before .enum-told3 .given .1) (c .refuse-epoch .ensures .1 (a .owned .now) (a .records .now) (a .list .now))
 
 same-length-3 : tie.Need-same-length-3
 same-length-3 c = search needs
