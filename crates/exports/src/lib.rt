@@ -8,7 +8,7 @@ ghost use Rattle.rules.specs.Event as E;
 ghost use Rattle.rules.specs.Step.{step};
 ghost use Rattle.group.specs.View.{view};
 ghost use Rattle.events.specs.Outcomes.{took, requestOf};
-ghost use Rattle.exports.specs.Replies.{replied, reportOf};
+ghost use Rattle.exports.specs.Replies.{replied, reportOf, RefusalReturns};
 use events::Outcome;
 use events::Request;
 use group::Group;
@@ -40,7 +40,7 @@ pub struct Served {
 }
 
 fn handed_back(o: Outcome) -> Served
-    ensures { λ r. ⌜ ((b l : List ℕ) → replied r b l ≡ reportOf (took o b l)) ⌝ }
+    ensures { λ r. ⌜ (r .group ≡ o .group) × ((b l : List ℕ) → replied r b l ≡ reportOf (took o b l)) ⌝ }
 {
     let answer = o.answer;
     let said = events::what_is_said(answer);
@@ -81,7 +81,7 @@ pub extern "C" fn pankvisolo_heartbeat(
 
 #[no_mangle]
 pub extern "C" fn pankvisolo_sweep(g: Group, tick: u32, records: &mut [u8]) -> Served
-    ensures { λ r. ⌜ ((l : List ℕ) → replied r (now (records .exit)) l ≡ reportOf (step (view g) (E.sweep tick) (now (records .entry)) l)) ⌝ }
+    ensures { λ r. ⌜ RefusalReturns g r × ((l : List ℕ) → replied r (now (records .exit)) l ≡ reportOf (step (view g) (E.sweep tick) (now (records .entry)) l)) ⌝ }
 {
     handed_back(coordinator::sweep(g, tick, records))
 }
@@ -94,7 +94,7 @@ pub extern "C" fn pankvisolo_topic(
     count: u32,
     records: &mut [u8],
 ) -> Served
-    ensures { λ r. ⌜ ((l : List ℕ) → replied r (now (records .exit)) l ≡ reportOf (step (view g) (E.topic number (id .bytes) count) (now (records .entry)) l)) ⌝ }
+    ensures { λ r. ⌜ RefusalReturns g r × ((l : List ℕ) → replied r (now (records .exit)) l ≡ reportOf (step (view g) (E.topic number (id .bytes) count) (now (records .entry)) l)) ⌝ }
 {
     let bytes = id.bytes;
     handed_back(coordinator::topic(g, number, bytes, count, records))
@@ -107,7 +107,7 @@ pub extern "C" fn pankvisolo_install(
     entries: &[u8],
     records: &mut [u8],
 ) -> Served
-    ensures { λ r. ⌜ ((l : List ℕ) → replied r (now (records .exit)) l ≡ reportOf (step (view g) (E.install epoch (now (entries .entry))) (now (records .entry)) l)) ⌝ }
+    ensures { λ r. ⌜ RefusalReturns g r × ((l : List ℕ) → replied r (now (records .exit)) l ≡ reportOf (step (view g) (E.install epoch (now (entries .entry))) (now (records .entry)) l)) ⌝ }
 {
     handed_back(coordinator::install(g, epoch, entries, records))
 }

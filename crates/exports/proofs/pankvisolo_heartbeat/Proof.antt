@@ -18,7 +18,7 @@ same-length-2 : tie.Need-same-length-2
 same-length-2 c = search needs
 
 returns : tie.Need-returns
-returns c = c .handed-back .ensures _ _ ∙ ap reportOf (c .before .before .before .before .before .heartbeat .ensures)
+returns c = c .handed-back .ensures .1 _ _ ∙ ap reportOf (c .before .before .before .before .before .heartbeat .ensures)
 
 pub pankvisolo-heartbeat-spec : {M : Type 1} → statement M
 pankvisolo-heartbeat-spec =

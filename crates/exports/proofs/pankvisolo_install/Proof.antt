@@ -2,6 +2,7 @@
 use mathlib.Core.Path.{_≡_, ap, _∙_}
 use Rattle.exports.specs.Replies.{reportOf}
 use mir.Facts.{toZ-ofZ}
+use Rattle.exports.proofs.Refusing.{returned}
 use borrow.Author.Needs.{needs}
 use Rattle.exports.proofs.pankvisolo_install.Statement.{statement}
 use Rattle.exports.proofs.pankvisolo_install.Tie as tie
@@ -17,9 +18,12 @@ same-length c = search needs
 
 returns : tie.Need-returns
 returns c =
-    λ l.
-    c .handed-back .ensures _ l
-    ∙ ap reportOf (rw (toZ-ofZ (c .before .before .before .before .before .before .before .fits .epoch)) at (c .before .before .before .install .ensures l))
+    let o = c .before .before .before .install in
+    let h = c .handed-back in (
+      returned (o .result) (h .result) (h .ensures .0) (h .ensures .1) (o .ensures .0),
+      λ l.
+          h .ensures .1 _ l ∙ ap reportOf (rw (toZ-ofZ (c .before .before .before .before .before .before .before .fits .epoch)) at (o .ensures .1 l)),
+    )
 
 pub pankvisolo-install-spec : {M : Type 1} → statement M
 pankvisolo-install-spec =

@@ -1,6 +1,7 @@
 -- `exports::pankvisolo_topic` meets its contract: it hands on what `coordinator::topic` answers, as plain numbers.
 use mathlib.Core.Path.{_≡_, ap, _∙_}
 use Rattle.exports.specs.Replies.{reportOf}
+use Rattle.exports.proofs.Refusing.{returned}
 use borrow.Author.Needs.{needs}
 use Rattle.exports.proofs.pankvisolo_topic.Statement.{statement}
 use Rattle.exports.proofs.pankvisolo_topic.Tie as tie
@@ -15,7 +16,10 @@ same-length : tie.Need-same-length
 same-length c = search needs
 
 returns : tie.Need-returns
-returns c = λ l. c .handed-back .ensures _ l ∙ ap reportOf (c .before .before .before .topic .ensures l)
+returns c =
+    let o = c .before .before .before .topic in
+    let h = c .handed-back in
+    (returned (o .result) (h .result) (h .ensures .0) (h .ensures .1) (o .ensures .0), λ l. h .ensures .1 _ l ∙ ap reportOf (o .ensures .1 l))
 
 pub pankvisolo-topic-spec : {M : Type 1} → statement M
 pankvisolo-topic-spec =
