@@ -1,6 +1,11 @@
 -- `coordinator::install` meets its contract, which is that of `installing::install`: an epoch that is passed on is the same number.
+use lib.IntN.{ℤ}
+use mathlib.Core.Path.{ap, _∙_}
 use borrow.Author.Needs.{needs}
 use mir.Facts.{toZ-ofZ}
+use Rattle.rules.specs.Event.{install}
+use Rattle.rules.specs.Step.{step}
+use Rattle.group.specs.View.{view}
 use Rattle.coordinator.proofs.install.Statement.{statement}
 use Rattle.coordinator.proofs.install.Tie as tie
 
@@ -12,7 +17,10 @@ same-length c = search needs
 
 returns : tie.Need-returns
 returns c =
-    (c .before .before .install .ensures .0, λ l. rw (toZ-ofZ (c .before .before .before .before .before .before .fits .epoch)) at (c .before .before .install .ensures .1 l))
+    let s = c .before .before .before .before .before .before in
+    let a = s .args in
+    let o = c .before .before .install in
+    (o .ensures .0, λ l. o .ensures .1 l ∙ ap (λ (z : ℤ). step (view (a .g)) (install z (a .entries .now)) (a .records .now) l) (toZ-ofZ (s .fits .epoch)))
 
 pub install-spec : {M : Type 1} → statement M
 install-spec = tie.close (tie.spec install-requires same-length returns)

@@ -1,5 +1,9 @@
 -- `exports::pankvisolo_install` meets its contract: it hands on what `coordinator::install` answers, as plain numbers.
+use lib.IntN.{ℤ}
 use mathlib.Core.Path.{_≡_, ap, _∙_}
+use Rattle.rules.specs.Event.{install}
+use Rattle.rules.specs.Step.{step}
+use Rattle.group.specs.View.{view}
 use Rattle.exports.specs.Replies.{reportOf}
 use mir.Facts.{toZ-ofZ}
 use Rattle.exports.proofs.Refusing.{returned}
@@ -19,10 +23,12 @@ same-length c = search needs
 returns : tie.Need-returns
 returns c =
     let o = c .before .before .before .install in
-    let h = c .handed-back in (
+    let h = c .handed-back in
+    let s = c .before .before .before .before .before .before .before in
+    let a = s .args in (
       returned (o .result) (h .result) (h .ensures .0) (h .ensures .1) (o .ensures .0),
       λ l.
-          h .ensures .1 _ l ∙ ap reportOf (rw (toZ-ofZ (c .before .before .before .before .before .before .before .fits .epoch)) at (o .ensures .1 l)),
+          h .ensures .1 _ l ∙ ap reportOf (o .ensures .1 l ∙ ap (λ (z : ℤ). step (view (a .g)) (install z (a .entries .now)) (a .records .now) l) (toZ-ofZ (s .fits .epoch))),
     )
 
 pub pankvisolo-install-spec : {M : Type 1} → statement M
