@@ -1,82 +1,46 @@
--- A run of the code is a run of the rules: the contracts say so of each exchange, so it holds of the ledger, of the history and of the last group, and
--- demand 3 of the rules is demand 3 of the code.
-use Prim.Native.Nat.{ℕ}
+-- A run of the code is a run of the rules: the contracts say so of each exchange, so the course of the one stands for that of the other, and demand 3 of the
+-- rules is demand 3 of the code.
 use mathlib.Core.Path.{_≡_, refl, sym, ap, _∙_, subst}
-use mathlib.Core.List.{List, [], _∷_, _++_}
-use lib.ListN.{take}
-use Rattle.rules.specs.Group as G
-use Rattle.rules.specs.Step.{Stepped, step}
-use Rattle.rules.specs.Ledger.{Ledger, emptyLedger, reckon, Call, stepped, reckoned, AllTyped, SingleHolder}
-use Rattle.rules.specs.Rounds.{History, noHistory, observe, observed, groupAfter, historyAfter, ThreeRounds, AllRegular, Round, Settled}
+use mathlib.Core.List.{List, [], _∷_, _++_, foldl, map, map-append}
+use Rattle.rules.specs.Course as R
+use Rattle.rules.specs.Course.{Call, HeldByOne, SingleHolder, observe, seenOf, stepped}
+use Rattle.rules.specs.Rounds.{ThreeRounds}
 use Rattle.group.specs.declared.Group.{Group}
 use Rattle.group.specs.View.{view}
-use Rattle.events.specs.declared.Outcome.{Outcome}
 use Rattle.events.specs.Outcomes.{took}
-use Rattle.coordinator.specs.Runs.{Exchange, Run, lastGroup, callsOf, ledgerOf, historyOf, RunsSingleHolder, RunsSettle}
+use Rattle.coordinator.specs.Runs.{Course, Exchange, Run, RunsSettle, RunsSingleHolder, begun, callsOf, courseAfter, next, shown, viewCourse}
 
--- what one exchange shows, by its contract
-module _ (g : Group) (x : Exchange) (e : took (x .outcome) (x .buffer) (x .list) ≡ step (view g) (x .call .event) (x .call .buffer) (x .call .list)) where
-  same-step : took (x .outcome) (x .buffer) (x .list) ≡ stepped (view g) (x .call)
-  unfolding stepped
-  same-step = e
+follows-one : (c : Course) (x : Exchange) → shown x ≡ stepped (view (c .group)) (x .call) → viewCourse (next c x) ≡ R.next (viewCourse c) (x .call)
+unfolding viewCourse next R.next took
+follows-one c x e = λ i. record { group = e i .group; history = observe (c .history) (seenOf (x .call .event) (e i)) }
 
-  same-group : view (x .outcome .group) ≡ stepped (view g) (x .call) .group
-  unfolding took
-  same-group = ap (λ (r : Stepped). r .group) same-step
+follows : (xs : List Exchange) (c : Course) → Run (c .group) xs → viewCourse (courseAfter c xs) ≡ R.courseAfter (viewCourse c) (callsOf xs)
+unfolding courseAfter R.courseAfter next
+follows [] c r = refl
+follows (x ∷ xs) c r = follows xs (next c x) (r .1) ∙ ap (λ (d : R.Course). R.courseAfter d (callsOf xs)) (follows-one c x (r .0))
 
-  same-ledger : (l : Ledger) → reckon l (x .call .event) (x .outcome .answer) (x .list) (take (x .outcome .written) (x .buffer))
-      ≡ reckon l (x .call .event) (stepped (view g) (x .call) .answer) (stepped (view g) (x .call) .list) (take (stepped (view g) (x .call) .written) (stepped (view g) (x .call) .buffer))
-  unfolding took
-  same-ledger l = ap (λ (r : Stepped). reckon l (x .call .event) (r .answer) (r .list) (take (r .written) (r .buffer))) same-step
-
-  same-history : (h : History) → observe h (x .call .event) (x .outcome .answer) (x .list) (take (x .outcome .written) (x .buffer)) ≡ observed (view g) h (x .call)
-  unfolding took observed
-  same-history h = ap (λ (r : Stepped). observe h (x .call .event) (r .answer) (r .list) (take (r .written) (r .buffer))) same-step
-
-pub ledger-follows : (xs : List Exchange) (g : Group) (l : Ledger) → Run g xs → ledgerOf l xs ≡ reckoned (view g) l (callsOf xs)
-unfolding ledgerOf reckoned callsOf
-ledger-follows [] g l r = refl
-ledger-follows (x ∷ xs) g l r =
-    ledger-follows xs (x .outcome .group) _ (r .1)
-    ∙ (λ i. reckoned (same-group g x (r .0) i) (same-ledger g x (r .0) l i) (callsOf xs))
-
-pub history-follows : (xs : List Exchange) (g : Group) (h : History) → Run g xs → historyOf h xs ≡ historyAfter (view g) h (callsOf xs)
-unfolding historyOf historyAfter callsOf
-history-follows [] g h r = refl
-history-follows (x ∷ xs) g h r =
-    history-follows xs (x .outcome .group) _ (r .1)
-    ∙ (λ i. historyAfter (same-group g x (r .0) i) (same-history g x (r .0) h i) (callsOf xs))
-
-pub group-follows : (xs : List Exchange) (g : Group) → Run g xs → view (lastGroup g xs) ≡ groupAfter (view g) (callsOf xs)
-unfolding lastGroup groupAfter callsOf
-group-follows [] g r = refl
-group-follows (x ∷ xs) g r = group-follows xs (x .outcome .group) (r .1) ∙ ap (λ (h : G.Group). groupAfter h (callsOf xs)) (same-group g x (r .0))
-
-calls-append : (xs ys : List Exchange) → callsOf (xs ++ ys) ≡ callsOf xs ++ callsOf ys
-unfolding callsOf
-calls-append [] ys = refl
-calls-append (x ∷ xs) ys = ap (λ (l : List Call). x .call ∷ l) (calls-append xs ys)
+pub run-follows : (xs : List Exchange) (g : Group) → Run g xs → viewCourse (courseAfter (begun g) xs) ≡ R.courseAfter (R.begun (view g)) (callsOf xs)
+unfolding begun R.begun viewCourse
+run-follows xs g r = follows xs (begun g) r
 
 run-front : (xs ys : List Exchange) (g : Group) → Run g (xs ++ ys) → Run g xs
 run-front [] ys g r = tt
 run-front (x ∷ xs) ys g r = (r .0, run-front xs ys (x .outcome .group) (r .1))
 
 pub runs-single-holder : (g : Group) → SingleHolder (view g) → RunsSingleHolder g
-unfolding RunsSingleHolder SingleHolder
-runs-single-holder g single xs r typed i j s a b =
-    let e = ledger-follows xs g emptyLedger r in
-    single (callsOf xs) typed i j s (rw e at a) (rw e at b)
+unfolding RunsSingleHolder SingleHolder viewCourse
+runs-single-holder g single xs r typed = subst (λ (c : R.Course). HeldByOne (c .history .ledger)) (sym (run-follows xs g r)) (single (callsOf xs) typed)
 
 pub runs-settle : (g : Group) → ThreeRounds (view g) → RunsSettle g
-unfolding RunsSettle ThreeRounds
+unfolding RunsSettle ThreeRounds viewCourse
 runs-settle g rounds before first second third r typed typed′ i force regular one two three p id named =
-    let whole = before ++ (first ++ (second ++ third)) in
-    let front : Run g before = run-front before (first ++ (second ++ third)) g r in
-    let past = history-follows before g noHistory front in
-    let three-calls : callsOf (first ++ (second ++ third)) ≡ callsOf first ++ (callsOf second ++ callsOf third) =
-    calls-append first (second ++ third) ∙ ap (λ (l : List Call). callsOf first ++ l) (calls-append second third) in
-    let all-calls : callsOf whole ≡ callsOf before ++ (callsOf first ++ (callsOf second ++ callsOf third)) =
-    calls-append before (first ++ (second ++ third)) ∙ ap (λ (l : List Call). callsOf before ++ l) three-calls in
-    let settled = rounds (callsOf before) typed i (rw past at force) (callsOf first) (callsOf second) (callsOf third)
-    (rw three-calls at typed′) (rw (past, group-follows before g front, three-calls) at regular) (rw past at one) (rw past at two) (rw past at three) p id (rw past at named) in
-    rw (history-follows whole g noHistory r, group-follows whole g r, all-calls) settled
+    let rest = first ++ (second ++ third) in
+    let past : viewCourse (courseAfter (begun g) before) ≡ R.courseAfter (R.begun (view g)) (callsOf before) = run-follows before g (run-front before rest g r) in
+    let rounds-calls : callsOf rest ≡ callsOf first ++ (callsOf second ++ callsOf third) =
+    map-append _ first (second ++ third) ∙ ap (λ (l : List Call). callsOf first ++ l) (map-append _ second third) in
+    let all-calls : callsOf (before ++ rest) ≡ callsOf before ++ (callsOf first ++ (callsOf second ++ callsOf third)) =
+    map-append _ before rest ∙ ap (λ (l : List Call). callsOf before ++ l) rounds-calls in
+    let known : courseAfter (begun g) before .history ≡ R.courseAfter (R.begun (view g)) (callsOf before) .history = ap (λ (c : R.Course). c .history) past in
+    let settled = rounds (callsOf before) typed i (rw known at force) (callsOf first) (callsOf second) (callsOf third)
+    (rw rounds-calls at typed′) (rw (past, rounds-calls) at regular) (rw known at one) (rw known at two) (rw known at three) p id (rw known at named) in
+    rw (run-follows (before ++ rest) g r, all-calls) settled

@@ -35,7 +35,7 @@ pub fn heartbeat(
     records: &mut [u8],
     list: &mut [u16],
 ) -> Outcome
-    ensures { λ r. ⌜ took r (now (records .exit)) (now (list .exit)) ≡ step (view g) (heartbeat (requestOf b (now (owned .entry)))) (now (records .entry)) (now (list .entry)) ⌝ }
+    ensures { λ r. ⌜ RefusalKeeps g r × (took r (now (records .exit)) (now (list .exit)) ≡ step (view g) (heartbeat (requestOf b (now (owned .entry)))) (now (records .entry)) (now (list .entry))) ⌝ }
 {
     let kind = epochs::kind_of(b.epoch);
     match kind {

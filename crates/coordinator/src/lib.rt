@@ -1,5 +1,6 @@
 // The coordinator of one consumer group: a fresh group, heartbeats, sweeps, topics and installs. What each event function hands back, and what the buffer and the
-// list then hold, is `step` of the rules, on all inputs: the answer or the refusal, the whole group, every byte. A refusal changes nothing anywhere.
+// list then hold, is `step` of the rules, on all inputs: the answer or the refusal, the whole group, every byte. A refusal changes nothing anywhere: the group that
+// it hands back is the very value that went in.
 // With 4,096 bytes and 1,024 entries lent, 1003 is never given (`NeverRoom` of the rules).
 ghost use mathlib.Core.Path.{_≡_};
 ghost use mathlib.Core.List.{List};
@@ -7,7 +8,7 @@ ghost use Prim.Native.Nat.{ℕ};
 ghost use Rattle.rules.specs.Group.{fresh};
 ghost use Rattle.rules.specs.Event as E;
 ghost use Rattle.rules.specs.Step.{step};
-ghost use Rattle.rules.specs.Ledger.{SingleHolder};
+ghost use Rattle.rules.specs.Course.{SingleHolder};
 ghost use Rattle.rules.specs.Rounds.{ThreeRounds};
 ghost use Rattle.rules.specs.Theorems.{Theorems};
 ghost use Rattle.group.specs.View.{view};

@@ -35,8 +35,8 @@ SameIfRefused Done before after = Unit {0}
 abbrev pub RefusalKeeps : S.Group → Outcome → Type 0
 RefusalKeeps g r = SameIfRefused (r .answer) g (r .group)
 
-abbrev pub subscriptionOf : Bool → ℕ → Option ℕ
-subscriptionOf given topics = if given then some topics else none
+abbrev pub givenSubscription : Bool → ℕ → Option ℕ
+givenSubscription given topics = if given then some topics else none
 
 unfoldable pub requestOf : Request → List ℕ → E.Request
 requestOf b owned = record {
@@ -44,7 +44,7 @@ requestOf b owned = record {
   epoch = b .epoch;
   tick = b .tick;
   timeout = b .timeout;
-  subscription = subscriptionOf (b .«has_subscription») (b .subscription);
+  subscription = givenSubscription (b .«has_subscription») (b .subscription);
   owned = ownedOf (b .«has_list») owned;
 }
 

@@ -1,4 +1,4 @@
--- An answer has the number 0 exactly if it is no refusal, so a host knows by the number that it has the very group back.
+-- An answer that accepts has the number 0, so with any other number comes the very group that went in. (That no refusal has the number 0 is in `decodes`.)
 use Prim.Native.Nat.{ℕ}
 use mathlib.Core.Path.{_≡_, ap, _∙_}
 use mathlib.Core.List.{List, []}

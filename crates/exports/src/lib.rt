@@ -1,5 +1,6 @@
 // The functions of the static library, for hosts in Rust or C. A group goes in by value and comes back by value; buffers and lists are lent; an answer
-// comes as plain numbers. No function asks anything of its caller: the contracts settle every value of every parameter.
+// comes as plain numbers. No function asks anything of its caller: the contracts settle every value of every parameter. With a number that is not 0 comes the
+// very group that went in.
 ghost use mathlib.Core.Path.{_≡_};
 ghost use mathlib.Core.List.{List};
 ghost use Prim.Native.Nat.{ℕ};
@@ -9,6 +10,8 @@ ghost use Rattle.rules.specs.Step.{step};
 ghost use Rattle.group.specs.View.{view};
 ghost use Rattle.events.specs.Outcomes.{took, requestOf};
 ghost use Rattle.exports.specs.Replies.{replied, reportOf, RefusalReturns};
+ghost use Rattle.exports.specs.Decoding.{Decodes};
+ghost use Rattle.exports.specs.Runs.{LibrarySingleHolder, LibrarySettles};
 use events::Outcome;
 use events::Request;
 use group::Group;
@@ -58,10 +61,11 @@ fn handed_back(o: Outcome) -> Served
     }
 }
 
-// A group with no topics and no members.
+// A group with no topics and no members. A host reads every answer off its numbers, and demand 3 holds of every run of the library from this group: no slot is
+// ever with two members, and three rounds of heartbeats settle every member on the target in force.
 #[no_mangle]
 pub extern "C" fn pankvisolo_fresh(tick: u32) -> Group
-    ensures { λ r. ⌜ view r ≡ fresh tick ⌝ }
+    ensures { λ r. ⌜ (view r ≡ fresh tick) × Decodes × LibrarySingleHolder r × LibrarySettles r ⌝ }
 {
     coordinator::fresh(tick)
 }
@@ -74,7 +78,7 @@ pub extern "C" fn pankvisolo_heartbeat(
     records: &mut [u8],
     list: &mut [u16],
 ) -> Served
-    ensures { λ r. ⌜ replied r (now (records .exit)) (now (list .exit)) ≡ reportOf (step (view g) (E.heartbeat (requestOf b (now (owned .entry)))) (now (records .entry)) (now (list .entry))) ⌝ }
+    ensures { λ r. ⌜ RefusalReturns g r × (replied r (now (records .exit)) (now (list .exit)) ≡ reportOf (step (view g) (E.heartbeat (requestOf b (now (owned .entry)))) (now (records .entry)) (now (list .entry)))) ⌝ }
 {
     handed_back(coordinator::heartbeat(g, b, owned, records, list))
 }

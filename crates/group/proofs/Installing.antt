@@ -13,16 +13,16 @@ use lib.ListN.{length, getD, drop, drop-of-length-le, List·getD-map}
 use lib.Seq.{drop-cons}
 use lib.Pow.{pow-pos, pow-mono}
 use borrow.Author.Tests.{ne-eqb, le-ltb}
-use Rattle.rules.specs.Basics.{if_then_else_}
+use Rattle.rules.specs.Basics.{firstWith, if_then_else_}
 use Rattle.rules.specs.Constants.{maxPartitions, topicCount}
 use Rattle.rules.specs.Group as G
 use Rattle.rules.specs.Group.{includesTopic, subscribes, belowCount, exists}
-use Rattle.rules.specs.Refusals.{badEntry, firstBad}
+use Rattle.rules.specs.Refusals.{badEntry}
 use Rattle.group.specs.declared.Group.{Group}
 use Rattle.group.specs.declared.Seat.{Seat}
 use Rattle.group.specs.declared.Topic.{Topic}
 use Rattle.group.specs.View.{view, viewSeat, viewTopic, seated}
-use Rattle.group.specs.Entries.{counts, countOf, subscriptions, subscriptionOf, entryBad, firstWith}
+use Rattle.group.specs.Entries.{counts, countOf, subscriptions, subscriptionOf, entryBad}
 use Rattle.group.proofs.Views.{no-topic, no-seat, topic-at, seat-at}
 
 -- ---- bits of a subscription
@@ -76,8 +76,8 @@ module _ (g : Group) where
   unfolding entryBad badEntry
   entry-is s e = rw (exists-is s, subscriber-is (s / maxPartitions) e)
 
-  pub first-is : (s : ℕ) (es : List ℕ) → firstWith (entryBad (counts (g .topics)) (subscriptions (g .seats))) s es ≡ firstBad (view g) s es
-  unfolding firstWith firstBad
+  pub first-is : (s : ℕ) (es : List ℕ) → firstWith (entryBad (counts (g .topics)) (subscriptions (g .seats))) s es ≡ firstWith (badEntry (view g)) s es
+  unfolding firstWith
   first-is s [] = refl
   first-is s (e ∷ es) = ap₂ (λ (b : Bool) (n : ℕ). if b then s else n) (entry-is s e) (first-is (suc s) es)
 

@@ -27,8 +27,3 @@ subscriptions ss = map subscriptionOf ss
 -- `badEntry` of the rules over them
 unfoldable pub entryBad : List ℕ → List ℕ → ℕ → ℕ → Bool
 entryBad cs ss s e = if eqb e noPlace then false else not (ltb (s % maxPartitions) (getD cs (s / maxPartitions) 0) && includesTopic (s / maxPartitions) (getD ss e 0))
-
--- the first index, from s on, whose entry the test refuses; the number after the last where there is none
-unfoldable pub firstWith : (ℕ → ℕ → Bool) → ℕ → List ℕ → ℕ
-firstWith bad s [] = s
-firstWith bad s (e ∷ es) = let after = firstWith bad (suc s) es in if bad s e then s else after

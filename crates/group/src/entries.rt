@@ -1,9 +1,10 @@
 // The entries of an install: the first slot whose entry row 1006 refuses.
 // The entries are tried against two arrays of numbers that are made once, so that the loop over 1,024 slots copies no group.
 ghost use mathlib.Core.Path.{_≡_};
+ghost use Rattle.rules.specs.Basics.{firstWith};
 ghost use Rattle.rules.specs.Refusals.{firstBad};
 ghost use Rattle.group.specs.View.{view};
-ghost use Rattle.group.specs.Entries.{counts, subscriptionOf, subscriptions, entryBad, firstWith};
+ghost use Rattle.group.specs.Entries.{counts, subscriptionOf, subscriptions, entryBad};
 use crate::Group;
 use crate::Seat;
 use crate::Topic;
@@ -90,7 +91,7 @@ fn first_bad_of(counts: [u8; TOPICS], subscriptions: [u16; MEMBERS], entries: &[
 
 // Row 1006: the first slot whose entry may not stand, or the number of entries where all may.
 pub fn first_bad(g: Group, entries: &[u8]) -> usize
-    ensures { λ r. ⌜ r ≡ firstBad (view g) 0 (now (entries .entry)) ⌝ }
+    ensures { λ r. ⌜ r ≡ firstBad (view g) (now (entries .entry)) ⌝ }
 {
     let topics = g.topics;
     let seats = g.seats;

@@ -61,11 +61,11 @@ module _ (g : Group) (z : ℤ) (entries b l : List ℕ) where
       install-already r = rw (h, q, r)
 
       module _ (r : eqb (g .targetEpoch) (g .epoch) ≡ false) where
-        pub install-bad : {s : ℕ} → s ≡ firstBad g 0 entries → s < slotCount → step g (install z entries) b l ≡ denied (BadTarget (slotNumber s)) g b l
+        pub install-bad : {s : ℕ} → s ≡ firstBad g entries → s < slotCount → step g (install z entries) b l ≡ denied (BadTarget (slotNumber s)) g b l
         unfolding step verdict table firstOf carryOut
         install-bad {s} e k = rw (h, q, r, ← e, lt-ltb s slotCount k)
 
-        pub install-step : {s : ℕ} → s ≡ firstBad g 0 entries → slotCount ≤ s → step g (install z entries) b l ≡ carried g (installEffect g entries) b l
+        pub install-step : {s : ℕ} → s ≡ firstBad g entries → slotCount ≤ s → step g (install z entries) b l ≡ carried g (installEffect g entries) b l
         unfolding step verdict table firstOf carryOut carried effect
         install-step {s} e k = rw (h, q, r, ← e, le-ltb s slotCount k)
 
@@ -77,7 +77,7 @@ records-viewed : (ts us hs : List ℕ) (ws : List Bool) (e : ℕ) → length hs 
 unfolding installRecords targetRecord
 records-viewed ts us hs ws e k l m =
     λ i.
-    concatMap (λ (p : ℕ). onlyIf (not (same (viewed p ts hs ws k l i) (viewed p us hs ws (k ∙ sym m) (l ∙ sym m) i))) (targetIs p (viewed p us hs ws (k ∙ sym m) (l ∙ sym m) i))) (upTo 0 maxMembers)
+    concatMap (λ (p : ℕ). onlyIf (not (same (viewed p ts hs ws k l i) (viewed p us hs ws (k ∙ sym m) (l ∙ sym m) i))) (targetIs (record { place = p; slots = viewed p us hs ws (k ∙ sym m) (l ∙ sym m) i }))) (upTo 0 maxMembers)
     ++ (targetEpoch e ∷ [])
 
 module _ (s : S.Group) (entries : List ℕ) where

@@ -62,7 +62,7 @@ module _ (p : ℕ) where
 -- the set that was gathered; nothing where the sets are the same
 module _ (p : ℕ) (before after : List ℕ) where
   pub record-gathered : {same-is : Bool} (x y : List ℕ) → x ≡ setM p (unheld before) → y ≡ setM p (unheld after) → same-is ≡ same x y
-      → onlyIf (not same-is) (targetIs p y) ≡ recordOf before after p
+      → onlyIf (not same-is) (targetIs (record { place = p; slots = y })) ≡ recordOf before after p
   unfolding targetRecord
   record-gathered x y hx hy e = rw (e, hx, hy)
 

@@ -10,17 +10,18 @@ ghost use Rattle.rules.specs.Group.{setM};
 ghost use Rattle.rules.specs.Records.{allBytes, targetIs};
 ghost use Rattle.rules.specs.Effects.{onlyIf, installRecords};
 ghost use Rattle.numbers.specs.Buffer.{Wrote};
-ghost use Rattle.slots.specs.Set.{slotsOf};
+ghost use Rattle.records.specs.Views.{viewTarget};
 ghost use Rattle.installing.specs.Targets.{unheld, recordOf, recordsOf, Marked};
+use records::kinds::TargetAssignment;
 use rules::MEMBERS;
 use rules::Place;
 use rules::SLOTS;
 use slots::SlotSet;
 
-// Whether the set of a place changes, and the set that it then has.
+// Whether the target of a place changes, and the target that it then has.
 struct Retarget {
     changes: bool,
-    set: SlotSet,
+    target: TargetAssignment,
 }
 
 // A mark for each place.
@@ -29,12 +30,12 @@ pub struct Marks {
 }
 
 impl Marks {
-    // The marks with place p marked; a number that is no place marks nothing.
-    fn with(self, p: u8) -> Marks
-        ensures { λ r. ⌜ ((q : ℕ) → q < maxMembers → getD (r .at) q false ≡ (getD (self .at) q false || eqb q p)) ⌝ }
+    // The marks with the place of a target's entry marked; an entry that is no place marks nothing.
+    fn with(self, entry: u8) -> Marks
+        ensures { λ r. ⌜ ((p : ℕ) → p < maxMembers → getD (r .at) p false ≡ (getD (self .at) p false || eqb p entry)) ⌝ }
     {
         let mut marks = self;
-        let i = p as usize;
+        let i = entry as usize;
         if i < MEMBERS {
             marks.at[i] = true;
             return marks;
@@ -64,24 +65,35 @@ pub fn changed_places<'a>(before: &'a [u8; SLOTS], after: &'a [u8; SLOTS]) -> Ma
     marks
 }
 
-// What becomes of the set of place p; only the sets of a marked place are gathered.
-fn retarget_of<'a>(mark: bool, p: u8, before: &'a [u8; SLOTS], after: &'a [u8; SLOTS]) -> Retarget
-    requires { ⌜ (length (now before) ≡ slotCount) × (length (now after) ≡ slotCount) × (mark ≡ false → setM p (unheld (now before)) ≡ setM p (unheld (now after))) ⌝ }
-    ensures { λ r. ⌜ onlyIf (r .changes) (targetIs p (slotsOf (r .set .words))) ≡ recordOf (now (before .entry)) (now (after .entry)) p ⌝ }
+// What becomes of the target of place p; only the sets of a marked place are gathered.
+fn retarget_of<'a>(
+    mark: bool,
+    p: Place,
+    before: &'a [u8; SLOTS],
+    after: &'a [u8; SLOTS],
+) -> Retarget
+    requires { ⌜ (length (now before) ≡ slotCount) × (length (now after) ≡ slotCount) × (mark ≡ false → setM (p .0) (unheld (now before)) ≡ setM (p .0) (unheld (now after))) ⌝ }
+    ensures { λ r. ⌜ onlyIf (r .changes) (targetIs (viewTarget (r .target))) ≡ recordOf (now (before .entry)) (now (after .entry)) (p .0) ⌝ }
 {
     if mark {
-        let old = slots::gather(before, p);
-        let new = slots::gather(after, p);
+        let old = slots::gather(before, p.0);
+        let new = slots::gather(after, p.0);
         let same = old.same_as(new);
         return Retarget {
             changes: !same,
-            set: new,
+            target: TargetAssignment {
+                place: p,
+                slots: new,
+            },
         };
     }
     let none = SlotSet::empty();
     Retarget {
         changes: false,
-        set: none,
+        target: TargetAssignment {
+            place: p,
+            slots: none,
+        },
     }
 }
 
@@ -95,9 +107,9 @@ fn targets_len<'a>(marks: Marks, before: &'a [u8; SLOTS], after: &'a [u8; SLOTS]
     while i < MEMBERS {
         let mark = marks.at[i];
         let p = i as u8;
-        let r = retarget_of(mark, p, before, after);
-        let set = r.set;
-        n += records::optional::target_len_if(r.changes, Place(p), set);
+        let r = retarget_of(mark, Place(p), before, after);
+        let target = r.target;
+        n += records::optional::target_len_if(r.changes, target);
         i += 1;
     }
     n
@@ -132,9 +144,9 @@ fn put_targets<'a>(
     while i < MEMBERS {
         let mark = marks.at[i];
         let p = i as u8;
-        let r = retarget_of(mark, p, before, after);
-        let set = r.set;
-        at += records::optional::put_target_if(&mut buf[at..], r.changes, Place(p), set);
+        let r = retarget_of(mark, Place(p), before, after);
+        let target = r.target;
+        at += records::optional::put_target_if(&mut buf[at..], r.changes, target);
         i += 1;
     }
     at

@@ -1,19 +1,18 @@
--- Where a member with an ID joins: its own place if it is known, or else the lowest free one.
+-- Where a member joins: `joinPlace` of the rules, if there is a place for it.
 use mathlib.Core.Path.{_≡_}
 use mathlib.Core.Bool.{Bool, _||_}
 use mathlib.Core.List.{List}
 use Prim.Native.Nat.{ℕ}
-use Rattle.rules.specs.Basics.{if_then_else_, any}
-use Rattle.rules.specs.Group.{Group, known, placeOf, vacant, lowestFree}
+use Rattle.rules.specs.Basics.{any}
+use Rattle.rules.specs.Event.{Request}
+use Rattle.rules.specs.Group.{Group, known, vacant}
+use Rattle.rules.specs.Effects.{joinPlace}
 use Rattle.group.specs.Searches.{Finds}
 use Rattle.joining.specs.declared.Choice.{Choice}
 
 abbrev pub hasPlace : Group → List ℕ → Bool
 hasPlace g id = known g id || any vacant (g .members)
 
-abbrev pub placeFor : Group → List ℕ → ℕ
-placeFor g id = if known g id then placeOf g id else lowestFree g
-
-pub record Chooses (g : Group) (id : List ℕ) (r : Choice) : Type 0 where
-  pub known-is : r .known ≡ known g id
-  pub place-is : Finds (hasPlace g id) (placeFor g id) (r .place)
+pub record Chooses (g : Group) (b : Request) (r : Choice) : Type 0 where
+  pub known-is : r .known ≡ known g (b .id)
+  pub place-is : Finds (hasPlace g (b .id)) (joinPlace g b) (r .place)

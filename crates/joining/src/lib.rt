@@ -6,6 +6,7 @@ ghost use mathlib.Core.List.{List};
 ghost use Prim.Native.Nat.{ℕ, _<_};
 ghost use Rattle.rules.specs.Basics.{any, default};
 ghost use Rattle.rules.specs.Constants.{lastEpoch};
+ghost use Rattle.rules.specs.Event as E;
 ghost use Rattle.rules.specs.Group.{targeted};
 ghost use Rattle.rules.specs.Refusals.{joins, malformed, lacking};
 ghost use Rattle.rules.specs.Effects.{joinAt};
@@ -13,7 +14,7 @@ ghost use Rattle.tables.specs.View.{viewTables};
 ghost use Rattle.group.specs.Members.{joinedAs};
 ghost use Rattle.group.specs.declared.Group as S;
 ghost use Rattle.group.specs.View.{view};
-ghost use Rattle.events.specs.Outcomes.{took, subscriptionOf, requestOf, carried, stepAs};
+ghost use Rattle.events.specs.Outcomes.{took, RefusalKeeps, givenSubscription, requestOf, carried, stepAs};
 ghost use Rattle.joining.specs.Joining.{Chooses};
 use events::Outcome;
 use events::Request;
@@ -29,6 +30,7 @@ use group::requests;
 use group::seats;
 use group::ticks;
 use records::batches;
+use records::kinds::MemberMetadata;
 use rules::Answer;
 use rules::Assignment;
 use rules::HEARTBEAT_INTERVAL;
@@ -76,9 +78,9 @@ fn is_bad_join(b: Request, owned: &[u16]) -> bool
     is_lacking(b, owned)
 }
 
-// The place of the member with an ID, or else the lowest free one, in every group that has these seats.
+// The place at which a member with an ID joins, in every group that has these seats.
 fn choose_place(places: [Seat; MEMBERS], id: Id) -> Choice
-    ensures { λ r. ⌜ ((g : S.Group) → g .seats ≡ places → Chooses (view g) id r) ⌝ }
+    ensures { λ r. ⌜ ((g : S.Group) (b : E.Request) → g .seats ≡ places → b .id ≡ id → Chooses (view g) b r) ⌝ }
 {
     let own = seats::find_member(places, id);
     match own {
@@ -97,8 +99,8 @@ fn choose_place(places: [Seat; MEMBERS], id: Id) -> Choice
 }
 
 // The subscription that is given, or none.
-fn subscription_of(b: Request) -> u16
-    ensures { λ r. ⌜ r ≡ default 0 (subscriptionOf (b .«has_subscription») (b .subscription)) ⌝ }
+fn given_subscription(b: Request) -> u16
+    ensures { λ r. ⌜ r ≡ default 0 (givenSubscription (b .«has_subscription») (b .subscription)) ⌝ }
 {
     if b.has_subscription {
         return b.subscription;
@@ -143,28 +145,26 @@ fn joiner_at(
 // The join at a place, where the seat was `had`: only the last row, 1003, is left to try. If the records do not fit the buffer, nothing changes.
 fn join_at(g: Group, had: Seat, p: Place, known: bool, b: Request, records: &mut [u8]) -> Outcome
     requires { ⌜ (g .epoch < lastEpoch) × (known ≡ true → had .id ≡ b .id) ⌝ }
-    ensures { λ r. ⌜ ((owned l : List ℕ) → took r (now (records .exit)) l ≡ carried (view g) (joinAt (view g) (p .0) known (requestOf b owned)) (now (records .entry)) l) ⌝ }
+    ensures { λ r. ⌜ RefusalKeeps g r × ((owned l : List ℕ) → took r (now (records .exit)) l ≡ carried (view g) (joinAt (view g) (p .0) known (requestOf b owned)) (now (records .entry)) l) ⌝ }
 {
     let tables = g.tables;
     let epoch = g.epoch + 1;
     let timeout = requests::timeout_or(b.timeout, 0);
-    let subscription = subscription_of(b);
+    let subscription = given_subscription(b);
     let joiner = joiner_at(tables, had, p, known, b, epoch, subscription, timeout);
     let retargets = joiner.retargets;
     let id = b.id;
-    let size = batches::join_records_len(p, retargets, id, timeout, subscription, epoch);
+    let metadata = MemberMetadata {
+        place: p,
+        id: id,
+        timeout: timeout,
+        subscription: subscription,
+    };
+    let size = batches::join_records_len(retargets, metadata, epoch);
     if records.len() < size {
         return refused(g, Refusal::Room);
     }
-    let written = batches::put_join_records(
-        records,
-        p,
-        retargets,
-        id,
-        timeout,
-        subscription,
-        epoch,
-    );
+    let written = batches::put_join_records(records, retargets, metadata, epoch);
     let after = tables.vacate(p);
     let seat = joiner.seat;
     Outcome {
@@ -180,7 +180,7 @@ fn join_at(g: Group, had: Seat, p: Place, known: bool, b: Request, records: &mut
 
 // A heartbeat taken as a join. The answer carries no slots, so that no list is lent.
 pub fn join(g: Group, b: Request, owned: &[u16], records: &mut [u8]) -> Outcome
-    ensures { λ r. ⌜ ((l : List ℕ) → took r (now (records .exit)) l ≡ stepAs joins (view g) (requestOf b (now (owned .entry))) (now (records .entry)) l) ⌝ }
+    ensures { λ r. ⌜ RefusalKeeps g r × ((l : List ℕ) → took r (now (records .exit)) l ≡ stepAs joins (view g) (requestOf b (now (owned .entry))) (now (records .entry)) l) ⌝ }
 {
     if ticks::goes_back(g.tick, b.tick) {
         return refused(g, Refusal::Clock);

@@ -1,6 +1,6 @@
 -- A buffer that is written from its start, part after part. `Writing` says what is there and which parts are to come. `begin` starts it, `put-one` (one element)
 -- and `put-at` (a part written at its place) take it further, `ended` closes it. A writer that was lent a part of the buffer wrote at a place (`part-over`).
--- A straight line of such writers goes by `Stage`, `first` and `next`.
+-- A straight line of such writers goes by `Stage`, `begun`, `first`, `next` and `next-at`.
 use mathlib.Core.Path.{_≡_, refl, sym, ap, ap₂, _∙_}
 use mathlib.Core.List.{List, [], _∷_, _++_, append-assoc, append-nil}
 use Prim.Native.Nat.{ℕ, suc, _+_, _-_, _≤_, _<_}
@@ -123,7 +123,10 @@ pub over-whole : (u b last : List ℕ) (n : ℕ) → Wrote u b last n → WroteA
 unfolding overlayAt
 over-whole u b last n p = record { place = p .count ∙ sym (zero-add (length u)); bytes = p .bytes }
 
--- the first was lent the whole buffer, and each other the part
+abbrev pub begun : {w b : List ℕ} {us : List (List ℕ)} → flat us ≡ w → length w ≤ length b → Stage w b us
+begun {b = b} e h = record { buf = b; at = 0; run = begin _ _ _ e h }
+
+-- the first was lent the whole buffer, and each other the part, or wrote at the place
 abbrev pub first : {w b u : List ℕ} {us : List (List ℕ)} {last : List ℕ} {n : ℕ} → Writing w b b 0 (u ∷ us) → Wrote u b last n → Stage w b us
 first {last = last} {n = n} s p = record { buf = last; at = n; run = put-at s (over-whole _ _ last n p) }
 
@@ -134,6 +137,9 @@ next {last = last} {n = n} t p = record {
   at = t .at + n;
   run = put-at (t .run) (part-over _ (t .buf) last (t .at) n p);
 }
+
+abbrev pub next-at : {w b₀ u : List ℕ} {us : List (List ℕ)} {last : List ℕ} {n : ℕ} (t : Stage w b₀ (u ∷ us)) → WroteAt u (t .at) (t .buf) last n → Stage w b₀ us
+next-at {last = last} {n = n} t p = record { buf = last; at = n; run = put-at (t .run) p }
 
 -- ---- the length of parts
 

@@ -8,14 +8,17 @@ use mathlib.Core.List.{List, []}
 use mathlib.Core.Option.{Option}
 use lib.Dec.{eqb}
 use lib.ListN.{length, getD-replicate}
-use Rattle.rules.specs.Basics.{if_then_else_, default, same}
+use Rattle.rules.specs.Basics.{if_then_else_}
 use Rattle.rules.specs.Constants.{slotCount}
+use Rattle.rules.specs.Event as E
 use Rattle.rules.specs.Group as G
-use Rattle.rules.specs.Group.{SlotState, setA, setP, memberAt, placeOf, raised}
-use Rattle.rules.specs.Refusals.{newSubscription, newTimeout, resubscribes, timeoutOr}
-use Rattle.rules.specs.Effects.{waits, strays, advanced, slotsAfter, revokes, epochAfter, memberAfter}
+use Rattle.rules.specs.Group.{SlotState, setA, setP, raised}
+use Rattle.rules.specs.Refusals.{newSubscription, newTimeout, resubscribes}
+use Rattle.rules.specs.Effects.{waits, strays, advanced, slotsAfter, revokes, epochAfter, memberAfter, updates, moves, currentOf, currentBefore, currentAfter}
+use Rattle.rules.specs.declared.Place.{Place}
 use Rattle.slots.specs.Set.{slotsOf}
 use Rattle.slots.proofs.Words.{has-none}
+use Rattle.records.specs.Views.{viewCurrent}
 use Rattle.records.proofs.Differences.{slots-none}
 use Rattle.tables.specs.View.{viewTables}
 use Rattle.tables.specs.Gathers.{Gathers}
@@ -30,71 +33,60 @@ use Rattle.group.specs.declared.member.Member.{Member}
 use Rattle.group.specs.View.{view, seated}
 use Rattle.group.specs.Transitions.{viewMember, noSlots, memberOf, memberStored, memberHeard}
 use Rattle.events.specs.declared.Request.{Request}
-use Rattle.events.specs.Outcomes.{requestOf, subscriptionOf}
+use Rattle.events.specs.Outcomes.{requestOf}
 use Rattle.ordinary.proofs.Freeing.{none-revoking, stays}
-use Rattle.ordinary.specs.Plans.{storedSubscription, storedTimeout, steppedBy, memberNext, PlanIs}
+use Rattle.ordinary.specs.Plans.{viewSender, storedSubscription, storedTimeout, steppedBy, memberNext, PlanIs}
 
 no-slots : slotsOf (noSlots .words) ≡ []
 no-slots = slots-none (noSlots .words) (has-none (noSlots .words) (λ k h. getD-replicate 16 k 0 0 h))
 
 -- ---- the member after the steps, by the decisions that the step made
 
-module _ (s : S.Group) (b : Request) (l : List ℕ) (p : ℕ) (seat : Seat) (sets : PlaceSets) (step : Advance)
-    (hp : placeOf (view s) (b .id) ≡ p) (hm : memberAt (view s) p ≡ seated seat) (hid : seat .id ≡ b .id)
-    (len : length (viewTables (s .tables)) ≡ slotCount)
-    (hs : Gathers p (viewTables (s .tables)) sets) (ha : Advances p (viewTables (s .tables)) (ownedOf (b .«has_list») l) step) where
-  member-here : memberAt (view s) (placeOf (view s) (b .id)) ≡ seated seat
-  member-here = ap (memberAt (view s)) hp ∙ hm
+module _ (g : S.Group) (b : Request) (l : List ℕ) (p : Place) (seat : Seat) (sets : PlaceSets) (step : Advance) (hid : seat .id ≡ b .id)
+    (len : length (viewTables (g .tables)) ≡ slotCount)
+    (hs : Gathers (p .0) (viewTables (g .tables)) sets) (ha : Advances (p .0) (viewTables (g .tables)) (ownedOf (b .«has_list») l) step) where
+  abbrev sender : G.Sender
+  sender = viewSender (record { place = p; seat = seat })
 
-  slots-so : advanced p (viewTables (s .tables)) (ownedOf (b .«has_list») l) ≡ slotsAfter (view s) (requestOf b l)
-  unfolding slotsAfter requestOf view
-  slots-so = ap (λ (q : ℕ). advanced q (viewTables (s .tables)) (ownedOf (b .«has_list») l)) (sym hp)
-
-  revokes-so : revokes (view s) (requestOf b l) ≡ step .revokes
-  unfolding revokes requestOf view
-  revokes-so =
-      ap (λ (q : ℕ). not (waits q (viewTables (s .tables)) (ownedOf (b .«has_list») l)) && strays q (viewTables (s .tables)) (ownedOf (b .«has_list») l)) hp
-      ∙ sym (ha .revokes-is)
-
-  waits-so : waits (placeOf (view s) (b .id)) (viewTables (s .tables)) (ownedOf (b .«has_list») l) ≡ step .waits
-  waits-so = ap (λ (q : ℕ). waits q (viewTables (s .tables)) (ownedOf (b .«has_list») l)) hp ∙ sym (ha .waits-is)
-
-  epoch-so : epochAfter (view s) (requestOf b l) ≡ (if step .waits || step .revokes then seat .epoch else max (seat .epoch) (s .«target_epoch»))
-  unfolding epochAfter requestOf view
-  epoch-so = λ i. if waits-so i || revokes-so i then member-here i .epoch else max (member-here i .epoch) (s .«target_epoch»)
-
-  subscription-so : newSubscription (requestOf b l) (memberAt (view s) (placeOf (view s) (b .id))) ≡ storedSubscription seat b
-  unfolding newSubscription requestOf
-  subscription-so = ap (λ (x : G.Member). default (x .subscription) (subscriptionOf (b .«has_subscription») (b .subscription))) member-here
-
-  timeout-so : newTimeout (requestOf b l) (memberAt (view s) (placeOf (view s) (b .id))) ≡ storedTimeout seat b
-  unfolding newTimeout requestOf
-  timeout-so = ap (λ (x : G.Member). timeoutOr (b .timeout) (x .timeout)) member-here
+  abbrev request : E.Request
+  request = requestOf b l
 
   -- the slots before, and the list
   abbrev vs : List SlotState
-  vs = viewTables (s .tables)
+  vs = viewTables (g .tables)
 
   abbrev given : Option (List ℕ)
   given = ownedOf (b .«has_list») l
 
+  revokes-so : revokes (view g) sender request ≡ step .revokes
+  unfolding revokes requestOf view
+  revokes-so = sym (ha .revokes-is)
+
+  epoch-so : epochAfter (view g) sender request ≡ (if step .waits || step .revokes then seat .epoch else max (seat .epoch) (g .«target_epoch»))
+  unfolding epochAfter requestOf view
+  epoch-so = λ i. if sym (ha .waits-is) i || revokes-so i then seat .epoch else max (seat .epoch) (g .«target_epoch»)
+
+  slots-so : advanced (p .0) vs given ≡ slotsAfter (view g) sender request
+  unfolding slotsAfter requestOf view
+  slots-so = refl
+
   -- slots are revoked only where the member does not wait
   one-only : step .waits ≡ true → step .revokes ≡ false
-  one-only h = ha .revokes-is ∙ ap (λ (w : Bool). not w && strays p vs given) (sym (ha .waits-is) ∙ h)
+  one-only h = ha .revokes-is ∙ ap (λ (w : Bool). not w && strays (p .0) vs given) (sym (ha .waits-is) ∙ h)
 
   abbrev next : Member
-  next = memberNext seat sets step b (s .«target_epoch»)
+  next = memberNext seat sets step b (g .«target_epoch»)
 
   -- the same by what the step decided
   abbrev decided : Bool → Bool → Member
   decided w r =
-      steppedBy (record { assigned = step .assigned; revoking = step .revoking; waits = w; frees = step .frees; revokes = r; changed = step .changed }) (s .«target_epoch») (b .tick)
+      steppedBy (record { assigned = step .assigned; revoking = step .revoking; waits = w; frees = step .frees; revokes = r; changed = step .changed }) (g .«target_epoch») (b .tick)
       (memberHeard (memberStored (memberOf seat (sets .assigned) (sets .revoking)) (storedSubscription seat b) (storedTimeout seat b)) (b .tick))
 
   who-so : viewMember next
       ≡ record {
         id = seat .id;
-        epoch = if step .waits || step .revokes then seat .epoch else max (seat .epoch) (s .«target_epoch»);
+        epoch = if step .waits || step .revokes then seat .epoch else max (seat .epoch) (g .«target_epoch»);
         subscription = storedSubscription seat b;
         timeout = storedTimeout seat b;
         heard = b .tick;
@@ -107,7 +99,7 @@ module _ (s : S.Group) (b : Request) (l : List ℕ) (p : ℕ) (seat : Seat) (set
           → viewMember (decided w r)
           ≡ record {
             id = seat .id;
-            epoch = if w || r then seat .epoch else max (seat .epoch) (s .«target_epoch»);
+            epoch = if w || r then seat .epoch else max (seat .epoch) (g .«target_epoch»);
             subscription = storedSubscription seat b;
             timeout = storedTimeout seat b;
             heard = b .tick;
@@ -118,69 +110,62 @@ module _ (s : S.Group) (b : Request) (l : List ℕ) (p : ℕ) (seat : Seat) (set
       go false true h = refl
       go false false h = refl
 
-  member-so : viewMember next ≡ memberAfter (view s) (requestOf b l)
-  unfolding memberAfter requestOf
+  member-so : viewMember next ≡ memberAfter (view g) sender request
+  unfolding memberAfter newSubscription newTimeout requestOf
   member-so =
       who-so
       ∙ sym (λ i. record {
         id = sym hid i;
         epoch = epoch-so i;
-        subscription = subscription-so i;
-        timeout = timeout-so i;
+        subscription = storedSubscription seat b;
+        timeout = storedTimeout seat b;
         heard = b .tick;
-        revokedAt = if revokes-so i then b .tick else member-here i .revokedAt;
+        revokedAt = if revokes-so i then b .tick else seat .«revoked_at»;
       })
 
   -- A and P of the member, as the rules list them
-  assigned-so : slotsOf (next .assigned .words) ≡ setA p (slotsAfter (view s) (requestOf b l))
+  assigned-so : slotsOf (next .assigned .words) ≡ setA (p .0) (slotsAfter (view g) sender request)
   unfolding memberNext steppedBy
-  assigned-so = go (step .waits) (step .revokes) refl ∙ ap (setA p) slots-so
+  assigned-so = go (step .waits) (step .revokes) refl ∙ ap (setA (p .0)) slots-so
     where
-      go : (w r : Bool) → step .waits ≡ w
-          → slotsOf (decided w r .assigned .words)
-          ≡ setA p (advanced p vs given)
-      go true r h = gathered-assigned p vs len sets hs ∙ ap (setA p) (sym (stays p vs given (sym (ha .waits-is) ∙ h)))
+      go : (w r : Bool) → step .waits ≡ w → slotsOf (decided w r .assigned .words) ≡ setA (p .0) (advanced (p .0) vs given)
+      go true r h = gathered-assigned (p .0) vs len sets hs ∙ ap (setA (p .0)) (sym (stays (p .0) vs given (sym (ha .waits-is) ∙ h)))
       go false true h = ha .assigned-list
       go false false h = ha .assigned-list
 
-  revoking-so : slotsOf (next .revoking .words) ≡ setP p (slotsAfter (view s) (requestOf b l))
+  revoking-so : slotsOf (next .revoking .words) ≡ setP (p .0) (slotsAfter (view g) sender request)
   unfolding memberNext steppedBy
-  revoking-so = go (step .waits) (step .revokes) refl refl ∙ ap (setP p) slots-so
+  revoking-so = go (step .waits) (step .revokes) refl refl ∙ ap (setP (p .0)) slots-so
     where
-      go : (w r : Bool) → step .waits ≡ w → step .revokes ≡ r
-          → slotsOf (decided w r .revoking .words)
-          ≡ setP p (advanced p vs given)
-      go true r h k = gathered-revoking p vs len sets hs ∙ ap (setP p) (sym (stays p vs given (sym (ha .waits-is) ∙ h)))
+      go : (w r : Bool) → step .waits ≡ w → step .revokes ≡ r → slotsOf (decided w r .revoking .words) ≡ setP (p .0) (advanced (p .0) vs given)
+      go true r h k = gathered-revoking (p .0) vs len sets hs ∙ ap (setP (p .0)) (sym (stays (p .0) vs given (sym (ha .waits-is) ∙ h)))
       go false true h k = ha .revoking-list
       go false false h k =
-          let w : waits p vs given ≡ false = sym (ha .waits-is) ∙ h in
-          let st : strays p vs given ≡ false = sym (ap (λ (x : Bool). not x && strays p vs given) w) ∙ sym (ha .revokes-is) ∙ k in
-          no-slots ∙ sym (none-revoking p vs given w st)
+          let w : waits (p .0) vs given ≡ false = sym (ha .waits-is) ∙ h in
+          let st : strays (p .0) vs given ≡ false = sym (ap (λ (x : Bool). not x && strays (p .0) vs given) w) ∙ sym (ha .revokes-is) ∙ k in
+          no-slots ∙ sym (none-revoking (p .0) vs given w st)
 
   -- ---- the plan
 
-  module _ (n : Member) (hn : n ≡ next) (ts : Tables) (ht : viewTables ts ≡ advanced p vs given) (e : ℕ) (updates moves : Bool)
-      (he : e ≡ (if not (eqb (n .subscription) (seat .subscription)) then raised (s .epoch) else s .epoch))
-      (hu : updates ≡ (not (eqb (n .subscription) (seat .subscription)) || not (eqb (n .timeout) (seat .timeout))))
-      (hv : moves ≡ (not (eqb (n .epoch) (seat .epoch)) || step .changed)) where
-    who : viewMember n ≡ memberAfter (view s) (requestOf b l)
+  module _ (n : Member) (hn : n ≡ next) (ts : Tables) (ht : viewTables ts ≡ advanced (p .0) vs given) (e : ℕ) (u v : Bool)
+      (he : e ≡ (if not (eqb (n .subscription) (seat .subscription)) then raised (g .epoch) else g .epoch))
+      (hu : u ≡ (not (eqb (n .subscription) (seat .subscription)) || not (eqb (n .timeout) (seat .timeout))))
+      (hv : v ≡ (not (eqb (n .epoch) (seat .epoch)) || step .changed)) where
+    who : viewMember n ≡ memberAfter (view g) sender request
     who = ap viewMember hn ∙ member-so
 
-    raises-so : not (eqb (n .subscription) (seat .subscription)) ≡ resubscribes (view s) (requestOf b l)
+    raises-so : not (eqb (n .subscription) (seat .subscription)) ≡ resubscribes (seated seat) request
     unfolding resubscribes memberAfter requestOf
-    raises-so = λ i. not (eqb (who i .subscription) (sym member-here i .subscription))
+    raises-so = λ i. not (eqb (who i .subscription) (seat .subscription))
 
-    pub plan-is : PlanIs (view s) (requestOf b l) p (record { member = n; tables = ts; epoch = e; updates = updates; raises = not (eqb (n .subscription) (seat .subscription)); moves = moves })
-    unfolding view
+    pub plan-is : PlanIs (view g) (record { place = p; seat = seat }) request (record { member = n; tables = ts; epoch = e; updates = u; raises = not (eqb (n .subscription) (seat .subscription)); moves = v })
+    unfolding view requestOf memberAfter updates moves currentOf currentBefore currentAfter slotsAfter viewCurrent
     plan-is = record {
       member-is = who;
-      tables-are = ht ∙ slots-so;
-      assigned-are = ap (λ (m : Member). slotsOf (m .assigned .words)) hn ∙ assigned-so;
-      revoking-are = ap (λ (m : Member). slotsOf (m .revoking .words)) hn ∙ revoking-so;
+      current-is = λ i. record { place = p .0; epoch = who i .epoch; assigned = (ap (λ (m : Member). slotsOf (m .assigned .words)) hn ∙ assigned-so) i; revoking = (ap (λ (m : Member). slotsOf (m .revoking .words)) hn ∙ revoking-so) i };
+      tables-are = ht;
       raises-is = raises-so;
       epoch-is = he;
-      updates-is = hu ∙ (λ i. raises-so i || not (eqb (who i .timeout) (sym hm i .timeout)));
-      moves-is =
-          hv ∙ (λ i. not (eqb (who i .epoch) (sym hm i .epoch)) || ha .changed-is i)
-          ∙ (λ i. not (eqb (memberAfter (view s) (requestOf b l) .epoch) (memberAt (view s) p .epoch)) || (not (same (setA p (slots-so i)) (setA p vs)) || not (same (setP p (slots-so i)) (setP p vs))));
+      updates-is = hu ∙ (λ i. raises-so i || not (eqb (who i .timeout) (seat .timeout)));
+      moves-is = hv ∙ (λ i. not (eqb (who i .epoch) (seat .epoch)) || ha .changed-is i);
     }

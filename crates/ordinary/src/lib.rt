@@ -4,33 +4,35 @@ ghost use mathlib.Core.List.{[]};
 ghost use Prim.Native.Nat.{_<_};
 ghost use Rattle.rules.specs.Basics.{any, default};
 ghost use Rattle.rules.specs.Constants.{maxMembers};
-ghost use Rattle.rules.specs.Group.{memberAt, placeOf};
 ghost use Rattle.rules.specs.Refusals.{ordinary, notHeldBy};
 ghost use Rattle.tables.specs.Advances.{ownedOf};
-ghost use Rattle.group.specs.View.{view, seated};
-ghost use Rattle.events.specs.Outcomes.{took, requestOf, carried, stepAs};
-ghost use Rattle.ordinary.specs.Plans.{planned, ordinaryAt};
+ghost use Rattle.group.specs.View.{view};
+ghost use Rattle.events.specs.Outcomes.{took, RefusalKeeps, requestOf, carried, stepAs};
+ghost use Rattle.ordinary.specs.Plans.{viewSender, PlanIs, planned, ordinaryStep};
 
-mod plan; // plan.rt: what the heartbeat comes to, decided before anything is written
+mod plan; // plan.rt: the sender, and what becomes of it
 
 use crate::plan::Plan;
+use crate::plan::Sender;
 use events::Outcome;
 use events::Request;
 use events::refused;
 use events::rows;
 use group::Found;
 use group::Group;
-use group::Seat;
 use group::changes;
 use group::epochs;
 use group::seats;
 use group::ticks;
 use records::batches;
+use records::kinds::CurrentAssignment;
+use records::kinds::MemberMetadata;
 use rules::Answer;
 use rules::Assignment;
 use rules::HEARTBEAT_INTERVAL;
 use rules::Place;
 use rules::Refusal;
+use tables::bools::either;
 
 // The second row 42: whether a list is given that has a slot which the place does not hold.
 fn lists_unheld(g: Group, p: Place, given: bool, owned: &[u16]) -> bool
@@ -43,26 +45,59 @@ fn lists_unheld(g: Group, p: Place, given: bool, owned: &[u16]) -> bool
     false
 }
 
-// Carries a plan out if there is room for its records and its slots; otherwise nothing changes.
+// The plan for a sender: what its heartbeat comes to, decided before anything is written. The tables are gathered once, by one pass; a second pass writes
+// them, only where A or P changed.
+fn make_plan(g: Group, s: Sender, b: Request, owned: &[u16]) -> Plan
+    requires { ⌜ (s .seat .id ≡ b .id) × (s .place .0 < maxMembers) ⌝ }
+    ensures { λ r. ⌜ PlanIs (view g) s (requestOf b (now (owned .entry))) r ⌝ }
+{
+    let tables = g.tables;
+    let seat = s.seat;
+    let sets = tables.gather(s.place);
+    let step = sets.advance(b.has_list, owned);
+    let next = plan::next_member(seat, sets, step, b, g.target_epoch);
+    let raises = next.subscription != seat.subscription;
+    let epoch = epochs::epoch_after(g.epoch, raises);
+    let updates = either(raises, next.timeout != seat.timeout);
+    let moves = either(next.epoch != seat.epoch, step.changed);
+    let after = tables.follow(s.place, step);
+    Plan {
+        member: next,
+        tables: after,
+        epoch: epoch,
+        updates: updates,
+        raises: raises,
+        moves: moves,
+    }
+}
+
+// Carries a plan for place p out if there is room for its records and its slots; otherwise nothing changes.
 fn carry(g: Group, p: Place, tick: u32, k: Plan, records: &mut [u8], list: &mut [u16]) -> Outcome
-    ensures { λ r. ⌜ took r (now (records .exit)) (now (list .exit)) ≡ carried (view g) (planned (view g) (p .0) tick k) (now (records .entry)) (now (list .entry)) ⌝ }
+    ensures { λ r. ⌜ RefusalKeeps g r × (took r (now (records .exit)) (now (list .exit)) ≡ carried (view g) (planned (view g) p tick k) (now (records .entry)) (now (list .entry))) ⌝ }
 {
     let m = k.member;
     let a = m.assigned;
     let q = m.revoking;
     let id = m.id;
+    let metadata = MemberMetadata {
+        place: p,
+        id: id,
+        timeout: m.timeout,
+        subscription: m.subscription,
+    };
+    let current = CurrentAssignment {
+        place: p,
+        epoch: m.epoch,
+        assigned: a,
+        revoking: q,
+    };
     let size = batches::ordinary_records_len(
-        p,
         k.updates,
-        id,
-        m.timeout,
-        m.subscription,
+        metadata,
         k.raises,
         k.epoch,
         k.moves,
-        m.epoch,
-        a,
-        q,
+        current,
     );
     if records.len() < size {
         return refused(g, Refusal::Room);
@@ -73,17 +108,12 @@ fn carry(g: Group, p: Place, tick: u32, k: Plan, records: &mut [u8], list: &mut 
     }
     let written = batches::put_ordinary_records(
         records,
-        p,
         k.updates,
-        id,
-        m.timeout,
-        m.subscription,
+        metadata,
         k.raises,
         k.epoch,
         k.moves,
-        m.epoch,
-        a,
-        q,
+        current,
     );
     slots::list_slots(list, a);
     let seat = m.seat();
@@ -100,24 +130,23 @@ fn carry(g: Group, p: Place, tick: u32, k: Plan, records: &mut [u8], list: &mut 
     }
 }
 
-// An ordinary heartbeat of the member of the seat at place p, past the rows that only read.
+// An ordinary heartbeat of a sender, past the rows that only read.
 fn ordinary_at(
     g: Group,
-    seat: Seat,
-    p: Place,
+    s: Sender,
     b: Request,
     owned: &[u16],
     records: &mut [u8],
     list: &mut [u16],
 ) -> Outcome
-    requires { ⌜ (placeOf (view g) (b .id) ≡ p .0) × (memberAt (view g) (p .0) ≡ seated seat) × (seat .id ≡ b .id) × (p .0 < maxMembers) ⌝ }
-    ensures { λ r. ⌜ took r (now (records .exit)) (now (list .exit)) ≡ ordinaryAt (view g) (requestOf b (now (owned .entry))) (now (records .entry)) (now (list .entry)) ⌝ }
+    requires { ⌜ (s .seat .id ≡ b .id) × (s .place .0 < maxMembers) ⌝ }
+    ensures { λ r. ⌜ RefusalKeeps g r × (took r (now (records .exit)) (now (list .exit)) ≡ ordinaryStep (view g) (viewSender s) (requestOf b (now (owned .entry))) (now (records .entry)) (now (list .entry))) ⌝ }
 {
-    let k = plan::make_plan(g, seat, p, b, owned);
+    let k = make_plan(g, s, b, owned);
     if epochs::past_end(k.raises, g.epoch) {
         return refused(g, Refusal::EpochEnd);
     }
-    carry(g, p, b.tick, k, records, list)
+    carry(g, s.place, b.tick, k, records, list)
 }
 
 // A heartbeat taken as an ordinary one at the epoch e. The list of owned slots counts only where the request has one.
@@ -129,7 +158,7 @@ pub fn ordinary(
     records: &mut [u8],
     list: &mut [u16],
 ) -> Outcome
-    ensures { λ r. ⌜ took r (now (records .exit)) (now (list .exit)) ≡ stepAs (ordinary e) (view g) (requestOf b (now (owned .entry))) (now (records .entry)) (now (list .entry)) ⌝ }
+    ensures { λ r. ⌜ RefusalKeeps g r × (took r (now (records .exit)) (now (list .exit)) ≡ stepAs (ordinary e) (view g) (requestOf b (now (owned .entry))) (now (records .entry)) (now (list .entry))) ⌝ }
 {
     if ticks::goes_back(g.tick, b.tick) {
         return refused(g, Refusal::Clock);
@@ -150,5 +179,9 @@ pub fn ordinary(
     if lists_unheld(g, p, b.has_list, owned) {
         return refused(g, Refusal::InvalidRequest);
     }
-    ordinary_at(g, seat, p, b, owned, records, list)
+    let s = Sender {
+        place: p,
+        seat: seat,
+    };
+    ordinary_at(g, s, b, owned, records, list)
 }

@@ -1,16 +1,16 @@
--- The bytes of lists of records as parts, one after another, and their lengths: first of any lists (`all-cons`, `all-append`) and of a record that is there only if
--- something changed (`only-on`, `only-off`), then of each event's list.
+-- The bytes of lists of records as parts, one after another: first of any lists (`all-cons`, `all-append`) and of a record that is there only if something
+-- changed (`room-on`, `wrote-on`, `wrote-off`, `length-on`, `length-off`), then of each event's list.
 use mathlib.Core.Path.{_≡_, refl, sym, ap, _∙_}
-use mathlib.Core.Bool.{Bool, true, false}
+use mathlib.Core.Bool.{Bool, true, false, not, true≢false}
 use mathlib.Core.List.{List, [], _∷_, _++_, append-nil, append-assoc}
-use Prim.Native.Nat.{ℕ, _+_}
+use Prim.Native.Nat.{ℕ, _≤_}
 use lib.ListN.{length}
 use Rattle.rules.specs.Basics.{concatMap}
-use Rattle.rules.specs.Records.{Record, groupEpoch, topicIs, memberIs, memberGone, targetIs, currentIs, currentGone, bytesOf, allBytes}
-use Rattle.rules.specs.Effects.{onlyIf, topicRecords, goneRecords, leaveRecords, joinRecords}
-use Rattle.numbers.specs.Buffer.{flat}
+use Rattle.rules.specs.Records.{Record, MemberMetadata, TopicMetadata, CurrentAssignment, groupEpoch, topicIs, memberIs, memberGone, currentIs, currentGone, bytesOf, allBytes}
+use Rattle.rules.specs.Effects.{onlyIf, noTarget, joinedAt, topicRecords, goneRecords, leaveRecords, joinRecords, ordinaryRecords}
+use Rattle.rules.specs.Step.{overlay}
+use Rattle.numbers.specs.Buffer.{Wrote, flat}
 use Rattle.numbers.proofs.Writing.{lengths, flat-length}
-use Rattle.records.specs.Stored.{ordinaryStored}
 
 -- ---- any lists
 
@@ -27,69 +27,78 @@ unfolding allBytes
 all-append [] ss = refl
 all-append (r ∷ rs) ss = ap (λ (l : List ℕ). bytesOf r ++ l) (all-append rs ss) ∙ sym (append-assoc (bytesOf r) (concatMap bytesOf rs) (concatMap bytesOf ss))
 
-pub only-on : (r : Record) → allBytes (onlyIf true r) ≡ bytesOf r
+-- ---- a record that is there only if it is on: what its writer requires and ensures, and its length
+
+only-on : (r : Record) → allBytes (onlyIf true r) ≡ bytesOf r
 unfolding allBytes onlyIf
 only-on r = append-nil (bytesOf r)
 
-pub only-off : (r : Record) → allBytes (onlyIf false r) ≡ []
+only-off : (r : Record) → allBytes (onlyIf false r) ≡ []
 unfolding allBytes onlyIf
 only-off r = refl
 
+module _ (r : Record) {on : Bool} where
+  pub room-on : {n : ℕ} → on ≡ true → length (allBytes (onlyIf on r)) ≤ n → length (bytesOf r) ≤ n
+  room-on e h = rw (e, only-on) at h
+
+  pub wrote-on : {b b′ : List ℕ} {n : ℕ} → on ≡ true → Wrote (bytesOf r) b b′ n → Wrote (allBytes (onlyIf on r)) b b′ n
+  wrote-on e w = rw (e, only-on) w
+
+  pub wrote-off : {b : List ℕ} → on ≡ false → Wrote (allBytes (onlyIf on r)) b b 0
+  unfolding overlay
+  wrote-off e = rw (e, only-off) (record { count = refl; bytes = refl })
+
+-- a length function asks first whether it is off
+pub length-on : (r : Record) (on : Bool) {n : ℕ} → not on ≡ false → n ≡ length (bytesOf r) → n ≡ length (allBytes (onlyIf on r))
+length-on r true e h = rw only-on h
+length-on r false e h = absurd (true≢false e)
+
+pub length-off : (r : Record) (on : Bool) → not on ≡ true → 0 ≡ length (allBytes (onlyIf on r))
+length-off r true e = absurd (true≢false (sym e))
+length-off r false e = rw only-off refl
+
 -- ---- each event's list
 
-module _ (t : ℕ) (id : List ℕ) (n : ℕ) (changes raises : Bool) (e : ℕ) where
+pub parts-length : (us : List (List ℕ)) {w : List ℕ} → flat us ≡ w → length w ≡ lengths us
+parts-length us e = ap length (sym e) ∙ flat-length us
+
+module _ (changes : Bool) (t : TopicMetadata) (raises : Bool) (e : ℕ) where
   abbrev pub topicParts : List (List ℕ)
-  topicParts = allBytes (onlyIf changes (topicIs t id n)) ∷ allBytes (onlyIf raises (groupEpoch e)) ∷ []
+  topicParts = allBytes (onlyIf changes (topicIs t)) ∷ allBytes (onlyIf raises (groupEpoch e)) ∷ []
 
-  pub topic-records-parts : allBytes (topicRecords t id n changes raises e) ≡ flat topicParts
+  pub topic-parts : flat topicParts ≡ allBytes (topicRecords changes t raises e)
   unfolding topicRecords
-  topic-records-parts = rw (all-append, append-nil)
-
-  pub topic-records-length : length (allBytes (topicRecords t id n changes raises e)) ≡ lengths topicParts
-  topic-records-length = ap length topic-records-parts ∙ flat-length topicParts
+  topic-parts = rw (all-append, append-nil)
 
 module _ (p : ℕ) (retargets : Bool) where
   abbrev pub goneParts : List (List ℕ)
-  goneParts = bytesOf (currentGone p) ∷ allBytes (onlyIf retargets (targetIs p [])) ∷ bytesOf (memberGone p) ∷ []
+  goneParts = bytesOf (currentGone p) ∷ allBytes (onlyIf retargets (noTarget p)) ∷ bytesOf (memberGone p) ∷ []
 
-  pub gone-records-parts : allBytes (goneRecords p retargets) ≡ flat goneParts
+  pub gone-parts : flat goneParts ≡ allBytes (goneRecords p retargets)
   unfolding goneRecords
-  gone-records-parts = rw (all-cons, all-append, all-cons, all-none)
-
-  pub gone-records-length : length (allBytes (goneRecords p retargets)) ≡ lengths goneParts
-  gone-records-length = ap length gone-records-parts ∙ flat-length goneParts
+  gone-parts = rw (all-cons, all-append, all-cons, all-none)
 
 module _ (p : ℕ) (retargets raises : Bool) (e : ℕ) where
   abbrev pub leaveParts : List (List ℕ)
   leaveParts = allBytes (goneRecords p retargets) ∷ allBytes (onlyIf raises (groupEpoch e)) ∷ []
 
-  pub leave-records-parts : allBytes (leaveRecords p retargets raises e) ≡ flat leaveParts
+  pub leave-parts : flat leaveParts ≡ allBytes (leaveRecords p retargets raises e)
   unfolding leaveRecords
-  leave-records-parts = rw (all-append, append-nil)
+  leave-parts = rw (all-append, append-nil)
 
-  pub leave-records-length : length (allBytes (leaveRecords p retargets raises e)) ≡ lengths leaveParts
-  leave-records-length = ap length leave-records-parts ∙ flat-length leaveParts
-
-module _ (p : ℕ) (retargets : Bool) (id : List ℕ) (timeout subscription e : ℕ) where
+module _ (retargets : Bool) (m : MemberMetadata) (e : ℕ) where
   abbrev pub joinParts : List (List ℕ)
   joinParts =
-      allBytes (onlyIf retargets (targetIs p [])) ∷ bytesOf (memberIs p id timeout subscription) ∷ bytesOf (groupEpoch e) ∷ bytesOf (currentIs p e [] []) ∷ []
+      allBytes (onlyIf retargets (noTarget (m .place))) ∷ bytesOf (memberIs m) ∷ bytesOf (groupEpoch e) ∷ bytesOf (currentIs (joinedAt (m .place) e)) ∷ []
 
-  pub join-records-parts : allBytes (joinRecords p retargets id timeout subscription e) ≡ flat joinParts
+  pub join-parts : flat joinParts ≡ allBytes (joinRecords retargets m e)
   unfolding joinRecords
-  join-records-parts = rw (all-append, all-cons, all-cons, all-cons, all-none)
+  join-parts = rw (all-append, all-cons, all-cons, all-cons, all-none)
 
-  pub join-records-length : length (allBytes (joinRecords p retargets id timeout subscription e)) ≡ lengths joinParts
-  join-records-length = ap length join-records-parts ∙ flat-length joinParts
-
-module _ (p : ℕ) (updates : Bool) (id : List ℕ) (timeout subscription : ℕ) (raises : Bool) (g : ℕ) (moves : Bool) (e : ℕ) (a q : List ℕ) where
+module _ (updates : Bool) (m : MemberMetadata) (raises : Bool) (e : ℕ) (moves : Bool) (c : CurrentAssignment) where
   abbrev pub ordinaryParts : List (List ℕ)
-  ordinaryParts =
-      allBytes (onlyIf updates (memberIs p id timeout subscription)) ∷ allBytes (onlyIf raises (groupEpoch g)) ∷ allBytes (onlyIf moves (currentIs p e a q)) ∷ []
+  ordinaryParts = allBytes (onlyIf updates (memberIs m)) ∷ allBytes (onlyIf raises (groupEpoch e)) ∷ allBytes (onlyIf moves (currentIs c)) ∷ []
 
-  pub ordinary-records-parts : allBytes (ordinaryStored p updates id timeout subscription raises g moves e a q) ≡ flat ordinaryParts
-  unfolding ordinaryStored
-  ordinary-records-parts = rw (all-append, all-append, append-nil)
-
-  pub ordinary-records-length : length (allBytes (ordinaryStored p updates id timeout subscription raises g moves e a q)) ≡ lengths ordinaryParts
-  ordinary-records-length = ap length ordinary-records-parts ∙ flat-length ordinaryParts
+  pub ordinary-parts : flat ordinaryParts ≡ allBytes (ordinaryRecords updates m raises e moves c)
+  unfolding ordinaryRecords
+  ordinary-parts = rw (all-append, all-append, append-nil)

@@ -1,16 +1,21 @@
 -- The records as parts, one after another, and their lengths. Each kind is a number below 128, hence one byte, and so are the 0 and the 1 in records 5 and 8.
-use mathlib.Core.Path.{_≡_}
-use mathlib.Core.List.{List, [], _∷_, _++_, append-nil}
-use Prim.Native.Nat.{ℕ, _+_, _<_}
+use mathlib.Core.Path.{_≡_, refl, ap, _∙_}
+use mathlib.Core.List.{List, [], _∷_, _++_, map, append-nil, append-assoc}
+use Prim.Native.Nat.{ℕ, _+_}
 use native.Mathlib.Omega.{arith}
 use lib.Dec.{lit<}
 use lib.ListN.{length, length-append}
-use Rattle.rules.specs.Records.{groupEpoch, topicIs, memberIs, memberGone, targetEpoch, targetIs, currentIs, currentGone, number, setBytes, bytesOf}
+use Rattle.rules.specs.Records.{TopicMetadata, MemberMetadata, TargetAssignment, CurrentAssignment, groupEpoch, topicIs, memberIs, memberGone, targetEpoch, targetIs, currentIs, currentGone, number, setBytes, bytesOf}
 use Rattle.numbers.specs.Buffer.{flat}
 use Rattle.rules.proofs.Number.{number-small}
 use Rattle.records.specs.Fields.{numbers}
 
--- ---- each kind as its fields
+pub numbers-parts : (xs : List ℕ) → flat (map number xs) ≡ numbers xs
+unfolding numbers
+numbers-parts [] = refl
+numbers-parts (x ∷ xs) = ap (λ (l : List ℕ). number x ++ l) (numbers-parts xs)
+
+-- ---- each kind as the parts that its writer puts
 
 pub group-epoch-fields : (e : ℕ) → bytesOf (groupEpoch e) ≡ numbers (3 ∷ e ∷ [])
 unfolding bytesOf numbers
@@ -28,24 +33,40 @@ pub current-gone-fields : (p : ℕ) → bytesOf (currentGone p) ≡ numbers (8 �
 unfolding bytesOf numbers
 current-gone-fields p = rw (number-small 8 (lit< tt), number-small 0 (lit< tt))
 
-pub topic-fields : (t : ℕ) (id : List ℕ) (n : ℕ) → flat (number 4 ∷ number t ∷ id ∷ number n ∷ []) ≡ bytesOf (topicIs t id n)
-unfolding bytesOf
-topic-fields t id n = rw (number-small 4 (lit< tt), append-nil)
+abbrev pub topicParts : TopicMetadata → List (List ℕ)
+topicParts t = numbers (4 ∷ t .number ∷ []) ∷ t .id ∷ number (t .count) ∷ []
 
-pub member-fields : (p : ℕ) (id : List ℕ) (timeout subscription : ℕ)
-    → flat (number 5 ∷ number p ∷ number 1 ∷ id ∷ number timeout ∷ number subscription ∷ []) ≡ bytesOf (memberIs p id timeout subscription)
-unfolding bytesOf
-member-fields p id timeout subscription = rw (number-small 5 (lit< tt), number-small 1 (lit< tt), append-nil)
+pub topic-fields : (t : TopicMetadata) → flat (topicParts t) ≡ bytesOf (topicIs t)
+unfolding bytesOf numbers
+topic-fields t = rw (number-small 4 (lit< tt)) (simp (append-nil, append-assoc))
 
-pub target-fields : (p : ℕ) (s : List ℕ) → flat (number 7 ∷ number p ∷ setBytes s ∷ []) ≡ bytesOf (targetIs p s)
-unfolding bytesOf
-target-fields p s = rw (number-small 7 (lit< tt), append-nil)
+abbrev pub memberParts : MemberMetadata → List (List ℕ)
+memberParts m = numbers (5 ∷ m .place ∷ 1 ∷ []) ∷ m .id ∷ number (m .timeout) ∷ number (m .subscription) ∷ []
 
-pub current-fields : (p e : ℕ) (a q : List ℕ) → flat (number 8 ∷ number p ∷ number e ∷ setBytes a ∷ setBytes q ∷ []) ≡ bytesOf (currentIs p e a q)
-unfolding bytesOf
-current-fields p e a q = rw (number-small 8 (lit< tt), append-nil)
+pub member-fields : (m : MemberMetadata) → flat (memberParts m) ≡ bytesOf (memberIs m)
+unfolding bytesOf numbers
+member-fields m =
+    let rest = m .id ++ (number (m .timeout) ++ (number (m .subscription) ++ [])) in
+    let kind : numbers (5 ∷ m .place ∷ 1 ∷ []) ≡ 5 ∷ (number (m .place) ++ 1 ∷ []) = rw (number-small 5 (lit< tt), number-small 1 (lit< tt)) in
+    ap (λ (l : List ℕ). l ++ rest) kind
+    ∙ ap (λ (l : List ℕ). 5 ∷ l) (append-assoc (number (m .place)) (1 ∷ []) rest)
+    ∙ ap (λ (l : List ℕ). 5 ∷ (number (m .place) ++ 1 ∷ (m .id ++ (number (m .timeout) ++ l)))) (append-nil (number (m .subscription)))
 
--- ---- their lengths
+abbrev pub targetParts : TargetAssignment → List (List ℕ)
+targetParts t = numbers (7 ∷ t .place ∷ []) ∷ setBytes (t .slots) ∷ []
+
+pub target-fields : (t : TargetAssignment) → flat (targetParts t) ≡ bytesOf (targetIs t)
+unfolding bytesOf numbers
+target-fields t = rw (number-small 7 (lit< tt)) (simp (append-nil, append-assoc))
+
+abbrev pub currentParts : CurrentAssignment → List (List ℕ)
+currentParts c = numbers (8 ∷ c .place ∷ c .epoch ∷ []) ∷ setBytes (c .assigned) ∷ setBytes (c .revoking) ∷ []
+
+pub current-fields : (c : CurrentAssignment) → flat (currentParts c) ≡ bytesOf (currentIs c)
+unfolding bytesOf numbers
+current-fields c = rw (number-small 8 (lit< tt)) (simp (append-nil, append-assoc))
+
+-- ---- their lengths, after the kind
 
 pub group-epoch-length : (e : ℕ) → length (bytesOf (groupEpoch e)) ≡ 1 + length (number e)
 unfolding bytesOf
@@ -55,29 +76,26 @@ pub target-epoch-length : (e : ℕ) → length (bytesOf (targetEpoch e)) ≡ 1 +
 unfolding bytesOf
 target-epoch-length e = omega arith
 
-pub topic-length : (t : ℕ) (id : List ℕ) (n : ℕ) → length (bytesOf (topicIs t id n)) ≡ 1 + length (number t) + length id + length (number n)
-unfolding bytesOf
-topic-length t id n = omega (arith, length-append (number t) (id ++ number n), length-append id (number n))
-
-pub member-length : (p : ℕ) (id : List ℕ) (timeout subscription : ℕ)
-    → length (bytesOf (memberIs p id timeout subscription)) ≡ 2 + length (number p) + length id + length (number timeout) + length (number subscription)
-unfolding bytesOf
-member-length p id timeout subscription =
-    omega (arith, length-append (number p) (1 ∷ (id ++ (number timeout ++ number subscription))), length-append id (number timeout ++ number subscription), length-append (number timeout) (number subscription))
-
 pub member-gone-length : (p : ℕ) → length (bytesOf (memberGone p)) ≡ 2 + length (number p)
 unfolding bytesOf
-member-gone-length p = omega (arith, length-append (number p) (0 ∷ []))
+member-gone-length p = simp length-append (omega arith)
 
 pub current-gone-length : (p : ℕ) → length (bytesOf (currentGone p)) ≡ 2 + length (number p)
 unfolding bytesOf
-current-gone-length p = omega (arith, length-append (number p) (0 ∷ []))
+current-gone-length p = simp length-append (omega arith)
 
-pub target-length : (p : ℕ) (s : List ℕ) → length (bytesOf (targetIs p s)) ≡ 1 + length (number p) + length (setBytes s)
+pub topic-length : (t : TopicMetadata) → length (bytesOf (topicIs t)) ≡ 1 + length (number (t .number)) + length (t .id) + length (number (t .count))
 unfolding bytesOf
-target-length p s = omega (arith, length-append (number p) (setBytes s))
+topic-length t = simp length-append (omega arith)
 
-pub current-length : (p e : ℕ) (a q : List ℕ) → length (bytesOf (currentIs p e a q)) ≡ 1 + length (number p) + length (number e) + length (setBytes a) + length (setBytes q)
+pub member-length : (m : MemberMetadata) → length (bytesOf (memberIs m)) ≡ 2 + length (number (m .place)) + length (m .id) + length (number (m .timeout)) + length (number (m .subscription))
 unfolding bytesOf
-current-length p e a q =
-    omega (arith, length-append (number p) (number e ++ (setBytes a ++ setBytes q)), length-append (number e) (setBytes a ++ setBytes q), length-append (setBytes a) (setBytes q))
+member-length m = simp length-append (omega arith)
+
+pub target-length : (t : TargetAssignment) → length (bytesOf (targetIs t)) ≡ 1 + length (number (t .place)) + length (setBytes (t .slots))
+unfolding bytesOf
+target-length t = simp length-append (omega arith)
+
+pub current-length : (c : CurrentAssignment) → length (bytesOf (currentIs c)) ≡ 1 + length (number (c .place)) + length (number (c .epoch)) + length (setBytes (c .assigned)) + length (setBytes (c .revoking))
+unfolding bytesOf
+current-length c = simp length-append (omega arith)

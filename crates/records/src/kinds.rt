@@ -7,12 +7,41 @@ ghost use lib.ListN.{length};
 ghost use Rattle.rules.specs.Constants.{slotCount};
 ghost use Rattle.rules.specs.Records.{bytesOf, groupEpoch, topicIs, memberIs, memberGone, targetEpoch, targetIs, currentIs, currentGone};
 ghost use Rattle.numbers.specs.Buffer.{Wrote};
-ghost use Rattle.slots.specs.Set.{slotsOf};
 ghost use Rattle.records.specs.Fields.{numbers};
+ghost use Rattle.records.specs.Views.{viewTopicMetadata, viewMemberMetadata, viewTarget, viewCurrent};
 use crate::sets;
 use rules::Id;
 use rules::Place;
 use slots::SlotSet;
+
+// What record 4 says of a topic.
+pub struct TopicMetadata {
+    pub number: u32,
+    pub id: Id,
+    pub count: u32,
+}
+
+// What record 5 says of a member.
+pub struct MemberMetadata {
+    pub place: Place,
+    pub id: Id,
+    pub timeout: u32,
+    pub subscription: u16,
+}
+
+// What record 7 says of a place: its target.
+pub struct TargetAssignment {
+    pub place: Place,
+    pub slots: SlotSet,
+}
+
+// What record 8 says of a member: its epoch E, its A (assigned) and its P (revoking).
+pub struct CurrentAssignment {
+    pub place: Place,
+    pub epoch: u32,
+    pub assigned: SlotSet,
+    pub revoking: SlotSet,
+}
 
 // Two numbers, one after the other.
 fn put_two(buf: &mut [u8], first: u32, second: u32) -> usize
@@ -49,46 +78,43 @@ pub fn group_epoch_len(epoch: u32) -> usize
 }
 
 // Record 4: a topic.
-pub fn put_topic(buf: &mut [u8], topic: u32, id: Id, count: u32) -> usize
-    requires { ⌜ length (bytesOf (topicIs topic id count)) ≤ length (now buf) ⌝ }
-    ensures { λ r. ⌜ Wrote (bytesOf (topicIs topic id count)) (now (buf .entry)) (now (buf .exit)) r ⌝ }
+pub fn put_topic(buf: &mut [u8], t: TopicMetadata) -> usize
+    requires { ⌜ length (bytesOf (topicIs (viewTopicMetadata t))) ≤ length (now buf) ⌝ }
+    ensures { λ r. ⌜ Wrote (bytesOf (topicIs (viewTopicMetadata t))) (now (buf .entry)) (now (buf .exit)) r ⌝ }
 {
-    let i = numbers::put_number_at(buf, 0, 4);
-    let j = numbers::put_number_at(buf, i, topic);
-    let k = numbers::put_id_at(buf, j, id);
-    numbers::put_number_at(buf, k, count)
+    let id = t.id;
+    let i = put_two(buf, 4, t.number);
+    let j = numbers::put_id_at(buf, i, id);
+    numbers::put_number_at(buf, j, t.count)
 }
 
 // How many bytes record 4 takes; the kind and the ID take 17 of them.
-pub fn topic_len(topic: u32, id: Id, count: u32) -> usize
-    ensures { λ r. ⌜ (r ≡ length (bytesOf (topicIs topic id count))) × (r ≤ 27) ⌝ }
+pub fn topic_len(t: TopicMetadata) -> usize
+    ensures { λ r. ⌜ (r ≡ length (bytesOf (topicIs (viewTopicMetadata t)))) × (r ≤ 27) ⌝ }
 {
-    17 + numbers::number_len(topic) + numbers::number_len(count)
+    17 + numbers::number_len(t.number) + numbers::number_len(t.count)
 }
 
 // Record 5: a member.
-pub fn put_member(buf: &mut [u8], place: Place, id: Id, timeout: u32, subscription: u16) -> usize
-    requires { ⌜ length (bytesOf (memberIs (place .0) id timeout subscription)) ≤ length (now buf) ⌝ }
-    ensures { λ r. ⌜ Wrote (bytesOf (memberIs (place .0) id timeout subscription)) (now (buf .entry)) (now (buf .exit)) r ⌝ }
+pub fn put_member(buf: &mut [u8], m: MemberMetadata) -> usize
+    requires { ⌜ length (bytesOf (memberIs (viewMemberMetadata m))) ≤ length (now buf) ⌝ }
+    ensures { λ r. ⌜ Wrote (bytesOf (memberIs (viewMemberMetadata m))) (now (buf .entry)) (now (buf .exit)) r ⌝ }
 {
-    let p = place.0;
-    let i = numbers::put_number_at(buf, 0, 5);
-    let j = numbers::put_number_at(buf, i, p as u32);
-    let k = numbers::put_number_at(buf, j, 1);
-    let l = numbers::put_id_at(buf, k, id);
-    let m = numbers::put_number_at(buf, l, timeout);
-    numbers::put_number_at(buf, m, subscription as u32)
+    let id = m.id;
+    let i = put_three(buf, 5, m.place.0 as u32, 1);
+    let j = numbers::put_id_at(buf, i, id);
+    let k = numbers::put_number_at(buf, j, m.timeout);
+    numbers::put_number_at(buf, k, m.subscription as u32)
 }
 
 // How many bytes record 5 takes; the kind, the 1 and the ID take 18 of them.
-pub fn member_len(place: Place, id: Id, timeout: u32, subscription: u16) -> usize
-    ensures { λ r. ⌜ (r ≡ length (bytesOf (memberIs (place .0) id timeout subscription))) × (r ≤ 33) ⌝ }
+pub fn member_len(m: MemberMetadata) -> usize
+    ensures { λ r. ⌜ (r ≡ length (bytesOf (memberIs (viewMemberMetadata m)))) × (r ≤ 33) ⌝ }
 {
-    let p = place.0;
     18
-        + numbers::number_len(p as u32)
-        + numbers::number_len(timeout)
-        + numbers::number_len(subscription as u32)
+        + numbers::number_len(m.place.0 as u32)
+        + numbers::number_len(m.timeout)
+        + numbers::number_len(m.subscription as u32)
 }
 
 // Record 5 of a member that is gone.
@@ -96,8 +122,7 @@ pub fn put_member_gone(buf: &mut [u8], place: Place) -> usize
     requires { ⌜ length (bytesOf (memberGone (place .0))) ≤ length (now buf) ⌝ }
     ensures { λ r. ⌜ Wrote (bytesOf (memberGone (place .0))) (now (buf .entry)) (now (buf .exit)) r ⌝ }
 {
-    let p = place.0;
-    put_three(buf, 5, p as u32, 0)
+    put_three(buf, 5, place.0 as u32, 0)
 }
 
 // Record 6: the target epoch.
@@ -116,51 +141,44 @@ pub fn target_epoch_len(epoch: u32) -> usize
 }
 
 // Record 7: the target of a place.
-pub fn put_target(buf: &mut [u8], place: Place, target: SlotSet) -> usize
-    requires { ⌜ length (bytesOf (targetIs (place .0) (slotsOf (target .words)))) ≤ length (now buf) ⌝ }
-    ensures { λ r. ⌜ Wrote (bytesOf (targetIs (place .0) (slotsOf (target .words)))) (now (buf .entry)) (now (buf .exit)) r ⌝ }
+pub fn put_target(buf: &mut [u8], t: TargetAssignment) -> usize
+    requires { ⌜ length (bytesOf (targetIs (viewTarget t))) ≤ length (now buf) ⌝ }
+    ensures { λ r. ⌜ Wrote (bytesOf (targetIs (viewTarget t))) (now (buf .entry)) (now (buf .exit)) r ⌝ }
 {
-    let p = place.0;
-    let i = numbers::put_number_at(buf, 0, 7);
-    let j = numbers::put_number_at(buf, i, p as u32);
-    sets::put_set_at(buf, j, target)
+    let slots = t.slots;
+    let at = put_two(buf, 7, t.place.0 as u32);
+    sets::put_set_at(buf, at, slots)
 }
 
 // How many bytes record 7 takes.
-pub fn target_len(place: Place, target: SlotSet) -> usize
-    ensures { λ r. ⌜ (r ≡ length (bytesOf (targetIs (place .0) (slotsOf (target .words))))) × (r ≤ 2 * slotCount + 11) ⌝ }
+pub fn target_len(t: TargetAssignment) -> usize
+    ensures { λ r. ⌜ (r ≡ length (bytesOf (targetIs (viewTarget t)))) × (r ≤ 2 * slotCount + 11) ⌝ }
 {
-    let p = place.0;
-    1 + numbers::number_len(p as u32) + sets::set_len(target)
+    let slots = t.slots;
+    1 + numbers::number_len(t.place.0 as u32) + sets::set_len(slots)
 }
 
-// Record 8: a member's epoch E, its A (assigned) and its P (revoking).
-pub fn put_current(
-    buf: &mut [u8],
-    place: Place,
-    epoch: u32,
-    assigned: SlotSet,
-    revoking: SlotSet,
-) -> usize
-    requires { ⌜ length (bytesOf (currentIs (place .0) epoch (slotsOf (assigned .words)) (slotsOf (revoking .words)))) ≤ length (now buf) ⌝ }
-    ensures { λ r. ⌜ Wrote (bytesOf (currentIs (place .0) epoch (slotsOf (assigned .words)) (slotsOf (revoking .words)))) (now (buf .entry)) (now (buf .exit)) r ⌝ }
+// Record 8: what a member has.
+pub fn put_current(buf: &mut [u8], c: CurrentAssignment) -> usize
+    requires { ⌜ length (bytesOf (currentIs (viewCurrent c))) ≤ length (now buf) ⌝ }
+    ensures { λ r. ⌜ Wrote (bytesOf (currentIs (viewCurrent c))) (now (buf .entry)) (now (buf .exit)) r ⌝ }
 {
-    let p = place.0;
-    let i = numbers::put_number_at(buf, 0, 8);
-    let j = numbers::put_number_at(buf, i, p as u32);
-    let k = numbers::put_number_at(buf, j, epoch);
-    let l = sets::put_set_at(buf, k, assigned);
-    sets::put_set_at(buf, l, revoking)
+    let assigned = c.assigned;
+    let revoking = c.revoking;
+    let i = put_three(buf, 8, c.place.0 as u32, c.epoch);
+    let j = sets::put_set_at(buf, i, assigned);
+    sets::put_set_at(buf, j, revoking)
 }
 
 // How many bytes record 8 takes.
-pub fn current_len(place: Place, epoch: u32, assigned: SlotSet, revoking: SlotSet) -> usize
-    ensures { λ r. ⌜ (r ≡ length (bytesOf (currentIs (place .0) epoch (slotsOf (assigned .words)) (slotsOf (revoking .words))))) × (r ≤ 4 * slotCount + 21) ⌝ }
+pub fn current_len(c: CurrentAssignment) -> usize
+    ensures { λ r. ⌜ (r ≡ length (bytesOf (currentIs (viewCurrent c)))) × (r ≤ 4 * slotCount + 21) ⌝ }
 {
-    let p = place.0;
+    let assigned = c.assigned;
+    let revoking = c.revoking;
     1
-        + numbers::number_len(p as u32)
-        + numbers::number_len(epoch)
+        + numbers::number_len(c.place.0 as u32)
+        + numbers::number_len(c.epoch)
         + sets::set_len(assigned)
         + sets::set_len(revoking)
 }
@@ -170,14 +188,12 @@ pub fn put_current_gone(buf: &mut [u8], place: Place) -> usize
     requires { ⌜ length (bytesOf (currentGone (place .0))) ≤ length (now buf) ⌝ }
     ensures { λ r. ⌜ Wrote (bytesOf (currentGone (place .0))) (now (buf .entry)) (now (buf .exit)) r ⌝ }
 {
-    let p = place.0;
-    put_three(buf, 8, p as u32, 0)
+    put_three(buf, 8, place.0 as u32, 0)
 }
 
 // How many bytes record 5 or 8 of a member that is gone takes.
 pub fn gone_len(place: Place) -> usize
     ensures { λ r. ⌜ (r ≡ length (bytesOf (memberGone (place .0)))) × (r ≡ length (bytesOf (currentGone (place .0)))) × (r ≤ 7) ⌝ }
 {
-    let p = place.0;
-    2 + numbers::number_len(p as u32)
+    2 + numbers::number_len(place.0 as u32)
 }

@@ -9,8 +9,6 @@ pub mod Effects
 pub mod Step
 pub mod Reader
 pub mod Ledger
+pub mod Course
 pub mod Rounds
 pub mod Theorems
-pub mod Running
-pub mod WorkedExample
-pub mod RunCases

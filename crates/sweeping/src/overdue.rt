@@ -17,11 +17,11 @@ use group::seats;
 use rules::MEMBERS;
 use rules::SLOTS;
 
-// A place, as tables have it, as an index.
-fn index(p: u8) -> usize
-    ensures { λ r. ⌜ r ≡ p ⌝ }
+// An entry of a table as an index of places: that of its place, or one past the last.
+fn index(entry: u8) -> usize
+    ensures { λ r. ⌜ r ≡ entry ⌝ }
 {
-    p as usize
+    entry as usize
 }
 
 // Whether some slot waits to be given back; `false` only where none does. Without a branch in the loop, so that a pass costs little: mostly none waits.

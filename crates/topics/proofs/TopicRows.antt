@@ -12,6 +12,7 @@ use Rattle.rules.specs.Refusals.{firstOf, table, topicBad, topicChanges, topicR
 use Rattle.rules.specs.Effects.{effect, withTopic, topicEpoch, topicRecords, topicEffect}
 use Rattle.rules.specs.Step.{step, verdict, carryOut}
 use Rattle.rules.specs.declared.Refusal.the-variants.{BadTopic, EpochEnd}
+use Rattle.records.specs.Views.{viewTopicMetadata}
 use Rattle.group.specs.declared.Group as S
 use Rattle.group.specs.View.{view}
 use Rattle.group.proofs.Rows.{raised-if}
@@ -47,9 +48,9 @@ module _ (s : S.Group) (t : ℕ) (id : List ℕ) (n : ℕ) {changes raises : Boo
   unfolding topicEpoch view atEnd
   epoch-is = he ∙ ap (λ (y : Bool). if y then raised (s .epoch) else s .epoch) hr ∙ raised-if (topicRaises (view s) t n) (s .epoch) x
 
-  pub topic-records : topicRecords t id n changes raises e ≡ topicEffect (view s) t id n .records
-  unfolding topicEffect
-  topic-records = λ i. topicRecords t id n (hc i) (hr i) (epoch-is i)
+  pub topic-records : topicRecords changes (viewTopicMetadata (record { number = t; id = id; count = n })) raises e ≡ topicEffect (view s) t id n .records
+  unfolding topicEffect viewTopicMetadata
+  topic-records = λ i. topicRecords (hc i) (record { number = t; id = id; count = n }) (hr i) (epoch-is i)
 
   pub topic-group : (out : S.Group) → view out ≡ withTopic (view s) t id n e → view out ≡ topicEffect (view s) t id n .group
   unfolding topicEffect

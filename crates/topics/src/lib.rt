@@ -15,6 +15,7 @@ use group::Group;
 use group::changes;
 use group::epochs;
 use records::batches;
+use records::kinds::TopicMetadata;
 use rules::Answer;
 use rules::Id;
 use rules::Refusal;
@@ -26,11 +27,16 @@ fn topic_at(g: Group, number: u32, id: Id, count: u32, raises: bool, records: &m
 {
     let changes = group::topics::topic_changes(g, number, count);
     let epoch = epochs::epoch_after(g.epoch, raises);
-    let size = batches::topic_records_len(number, id, count, changes, raises, epoch);
+    let t = TopicMetadata {
+        number: number,
+        id: id,
+        count: count,
+    };
+    let size = batches::topic_records_len(changes, t, raises, epoch);
     if records.len() < size {
         return refused(g, Refusal::Room);
     }
-    let written = batches::put_topic_records(records, number, id, count, changes, raises, epoch);
+    let written = batches::put_topic_records(records, changes, t, raises, epoch);
     Outcome {
         group: changes::with_topic(g, number, id, count as u8, epoch),
         answer: Answer::Done,

@@ -2,12 +2,12 @@
 use Prim.Native.Nat.{ℕ}
 use mathlib.Core.Path.{_≡_, sym, subst}
 use Rattle.rules.specs.Group.{fresh}
-use Rattle.rules.specs.Ledger.{SingleHolder}
+use Rattle.rules.specs.Course.{SingleHolder}
 use Rattle.rules.specs.Rounds.{ThreeRounds}
 use Rattle.rules.specs.Theorems.{Theorems}
-use Rattle.rules.proofs.SingleHolder.{single-holder}
-use Rattle.rules.proofs.ThreeRounds.{three-rounds}
-use Rattle.rules.proofs.All.{theorems}
+use Rattle.theorems.proofs.SingleHolder.{single-holder}
+use Rattle.theorems.proofs.ThreeRounds.{three-rounds}
+use Rattle.theorems.proofs.All.{theorems}
 use Rattle.group.specs.declared.Group.{Group}
 use Rattle.group.specs.View.{view}
 use Rattle.coordinator.specs.Runs.{RunsSingleHolder, RunsSettle}

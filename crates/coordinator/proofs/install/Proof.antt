@@ -17,10 +17,13 @@ same-length c = search needs
 
 returns : tie.Need-returns
 returns c =
-    let s = c .before .before .before .before .before .before in
-    let a = s .args in
-    let o = c .before .before .install in
-    (o .ensures .0, λ l. o .ensures .1 l ∙ ap (λ (z : ℤ). step (view (a .g)) (install z (a .entries .now)) (a .records .now) l) (toZ-ofZ (s .fits .epoch)))
+    let o = c .before .before .install in (
+      o .ensures .0,
+      λ l.
+          let s = c .before .before .before .before .before .before in
+          let a = s .args in
+          o .ensures .1 l ∙ ap (λ (z : ℤ). step (view (a .g)) (install z (a .entries .now)) (a .records .now) l) (toZ-ofZ (s .fits .epoch)),
+    )
 
 pub install-spec : {M : Type 1} → statement M
 install-spec = tie.close (tie.spec install-requires same-length returns)

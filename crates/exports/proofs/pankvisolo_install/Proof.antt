@@ -23,11 +23,11 @@ same-length c = search needs
 returns : tie.Need-returns
 returns c =
     let o = c .before .before .before .install in
-    let h = c .handed-back in
-    let s = c .before .before .before .before .before .before .before in
-    let a = s .args in (
+    let h = c .handed-back in (
       returned (o .result) (h .result) (h .ensures .0) (h .ensures .1) (o .ensures .0),
       λ l.
+          let s = c .before .before .before .before .before .before .before in
+          let a = s .args in
           h .ensures .1 _ l ∙ ap reportOf (o .ensures .1 l ∙ ap (λ (z : ℤ). step (view (a .g)) (install z (a .entries .now)) (a .records .now) l) (toZ-ofZ (s .fits .epoch))),
     )
 

@@ -11,9 +11,6 @@ use borrow.Author.Needs.{needs}
 use Rattle.joining.proofs.is_lacking.Statement.{statement}
 use Rattle.joining.proofs.is_lacking.Tie as tie
 
-has-no-timeout-requires : tie.Need-has-no-timeout-requires
-has-no-timeout-requires c κs = tt
-
 -- the timeout is handed on as it came
 tested : (c : tie.After-has-no-timeout) → noTimeout (c .before .before .before .before .args .b .timeout) ≡ c .has-no-timeout .result
 tested c =
@@ -37,4 +34,4 @@ unfolding lacking requestOf
 returns-4 c = rw (c .if1 .left)
 
 pub is-lacking-spec : {M : Type 1} → statement M
-is-lacking-spec = tie.close (tie.spec has-no-timeout-requires returns returns-2 returns-3 returns-4)
+is-lacking-spec = tie.close (tie.spec (λ c κs. tt) returns returns-2 returns-3 returns-4)

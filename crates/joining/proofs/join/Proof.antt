@@ -7,13 +7,14 @@ use borrow.Author.Tests.{leb-false}
 use Rattle.rules.specs.Event as E
 use Rattle.rules.specs.Group as G
 use Rattle.rules.specs.Refusals.{goesBack, malformed, lacking}
+use Rattle.rules.specs.Effects.{joinPlace}
 use Rattle.group.specs.Searches.{Hit}
 use Rattle.group.specs.View.{view}
 use Rattle.group.proofs.Finding.{hit, miss, found-same}
 use Rattle.group.proofs.Views.{goes-back-is, at-end-is}
-use Rattle.joining.specs.Joining.{hasPlace, placeFor}
+use Rattle.joining.specs.Joining.{hasPlace}
 use Rattle.events.specs.Outcomes.{requestOf}
-use Rattle.events.proofs.Carrying.{took-refused}
+use Rattle.events.proofs.Carrying.{took-refused, keeps-refused}
 use Rattle.joining.proofs.JoinRows.{row-clock, row-invalid, row-full, row-end, join-step, known-place, joins-there}
 use Rattle.joining.proofs.join.Statement.{statement}
 use Rattle.joining.proofs.join.Tie as tie
@@ -33,124 +34,99 @@ in-time c = sym (goes-back-is (c .before .before .before .before .args .g) _) �
 well-formed : (c : tie.Else2) → (malformed (request (c .before .before .before .before .before .before)) || lacking (request (c .before .before .before .before .before .before))) ≡ false
 well-formed c = sym (c .before .is-bad-join .ensures) ∙ c .if2 .left
 
-chosen : (c : tie.After-found) → Hit (hasPlace (group (c .before .before .before .before .before .before .before .before .before .before .before)) (request (c .before .before .before .before .before .before .before .before .before .before .before) .id)) (placeFor (group (c .before .before .before .before .before .before .before .before .before .before .before)) (request (c .before .before .before .before .before .before .before .before .before .before .before) .id)) (c .found .given .0 .0 .0)
+chosen : (c : tie.After-found) → Hit (hasPlace (group (c .before .before .before .before .before .before .before .before .before .before .before)) (request (c .before .before .before .before .before .before .before .before .before .before .before) .id)) (joinPlace (group (c .before .before .before .before .before .before .before .before .before .before .before)) (request (c .before .before .before .before .before .before .before .before .before .before .before))) (c .found .given .0 .0 .0)
 unfolding requestOf
-chosen c = hit (c .found .given .1) (c .before .before .choose-place .ensures (c .before .before .before .before .before .before .before .before .before .before .before .args .g) refl .place-is)
+chosen c = hit (c .found .given .1) (c .before .before .choose-place .ensures (c .before .before .before .before .before .before .before .before .before .before .before .args .g) (request (c .before .before .before .before .before .before .before .before .before .before .before)) refl refl .place-is)
 
 -- ---- the returns
 
-goes-back-requires : tie.Need-goes-back-requires
-goes-back-requires c κs = tt
-
-refused-requires : tie.Need-refused-requires
-refused-requires c κs = tt
-
 returns : tie.Need-returns
 unfolding requestOf
-returns c =
-    λ l.
-    let s = c .before .before .before .before .before in
-    let b = s .args .records .now in
-    let e : goesBack (group s) (request s .tick) ≡ true = sym (goes-back-is (s .args .g) _) ∙ sym (c .before .before .goes-back .ensures) ∙ c .before .if1 .taken in
-    took-refused b l (c .refused .ensures) ∙ sym (row-clock (group s) (request s) b l e)
-
-is-bad-join-requires : tie.Need-is-bad-join-requires
-is-bad-join-requires c κs = tt
-
-refused-requires-2 : tie.Need-refused-requires-2
-refused-requires-2 c κs = tt
+returns c = (
+  keeps-refused (c .refused .ensures),
+  λ l.
+      let s = c .before .before .before .before .before in
+      let b = s .args .records .now in
+      let e : goesBack (group s) (request s .tick) ≡ true = sym (goes-back-is (s .args .g) _) ∙ sym (c .before .before .goes-back .ensures) ∙ c .before .if1 .taken in
+      took-refused b l (c .refused .ensures) ∙ sym (row-clock (group s) (request s) b l e),
+)
 
 returns-2 : tie.Need-returns-2
-returns-2 c =
-    λ l.
-    let s = c .before .before .before .before .before .before .before in
-    let b = s .args .records .now in
-    took-refused b l (c .refused2 .ensures)
-    ∙ sym (row-invalid (group s) (request s) b l (in-time (c .before .before .before)) (sym (c .before .before .is-bad-join .ensures) ∙ c .before .if2 .taken))
-
-choose-place-requires : tie.Need-choose-place-requires
-choose-place-requires c κs = tt
-
-enum-known-found : tie.Need-enum-known-found
-enum-known-found c = search needs
-
-enum-told : tie.Need-enum-told
-enum-told c = search needs
-
-refused-requires-3 : tie.Need-refused-requires-3
-refused-requires-3 c κs = tt
+returns-2 c = (
+  keeps-refused (c .refused2 .ensures),
+  λ l.
+      let s = c .before .before .before .before .before .before .before in
+      let b = s .args .records .now in
+      took-refused b l (c .refused2 .ensures)
+      ∙ sym (row-invalid (group s) (request s) b l (in-time (c .before .before .before)) (sym (c .before .before .is-bad-join .ensures) ∙ c .before .if2 .taken)),
+)
 
 returns-3 : tie.Need-returns-3
 unfolding requestOf
-returns-3 c =
-    λ l.
-    let s = c .before .before .before .before .before .before .before .before .before .before .before .before in
-    let b = s .args .records .now in
-    let f = miss _ (c .before .enum-told .given .1) (c .before .before .before .choose-place .ensures (s .args .g) refl .place-is) in
-    took-refused b l (c .refused3 .ensures) ∙ sym (row-full (group s) (request s) b l (in-time (c .before .before .before .before .before .before .before .before)) (well-formed (c .before .before .before .before .before .before)) f)
-
-at-end-requires : tie.Need-at-end-requires
-at-end-requires c κs = tt
-
-refused-requires-4 : tie.Need-refused-requires-4
-refused-requires-4 c κs = tt
+returns-3 c = (
+  keeps-refused (c .refused3 .ensures),
+  λ l.
+      let s = c .before .before .before .before .before .before .before .before .before .before .before .before in
+      let b = s .args .records .now in
+      let f = miss _ (c .before .enum-told .given .1) (c .before .before .before .choose-place .ensures (s .args .g) (request s) refl refl .place-is) in
+      took-refused b l (c .refused3 .ensures) ∙ sym (row-full (group s) (request s) b l (in-time (c .before .before .before .before .before .before .before .before)) (well-formed (c .before .before .before .before .before .before)) f),
+)
 
 returns-4 : tie.Need-returns-4
-returns-4 c =
-    λ l.
-    let s = c .before .before .before .before .before .before .before .before .before .before .before .before .before .before .before in
-    let b = s .args .records .now in
-    let e = sym (at-end-is (s .args .g)) ∙ sym (c .before .before .at-end .ensures) ∙ c .before .if3 .taken in
-    took-refused b l (c .refused4 .ensures)
-    ∙ sym (row-end (group s) (request s) b l (in-time (c .before .before .before .before .before .before .before .before .before .before .before)) (well-formed (c .before .before .before .before .before .before .before .before .before)) (chosen (c .before .before .before .before) .found) e)
-
-seat-at-requires : tie.Need-seat-at-requires
-seat-at-requires c κs = tt
+returns-4 c = (
+  keeps-refused (c .refused4 .ensures),
+  λ l.
+      let s = c .before .before .before .before .before .before .before .before .before .before .before .before .before .before .before in
+      let b = s .args .records .now in
+      let e = sym (at-end-is (s .args .g)) ∙ sym (c .before .before .at-end .ensures) ∙ c .before .if3 .taken in
+      took-refused b l (c .refused4 .ensures)
+      ∙ sym (row-end (group s) (request s) b l (in-time (c .before .before .before .before .before .before .before .before .before .before .before)) (well-formed (c .before .before .before .before .before .before .before .before .before)) (chosen (c .before .before .before .before) .found) e),
+)
 
 -- the seat at the place of a known member has its ID
 join-at-requires : tie.Need-join-at-requires
 unfolding requestOf
 join-at-requires c κs =
-    let a = c .before .before .before .before .before .before .before .before .before .before .before .before .before .before .before .before .args in
+    let x = c .before .before .before .before .before .before .before .before .before .before .before .before .before .before .before .before in
+    let a = x .args in
     let s = c .before .seat-at in (
       leb-false _ _ (sym (c .before .before .before .at-end .ensures) ∙ c .before .before .if3 .left),
-      λ k. found-same (a .g) (a .b .id) (known-place (view (a .g)) (a .b .id) (c .before .before .before .before .before .before .before .choose-place .ensures (a .g) refl .known-is) (chosen (c .before .before .before .before .before)) k) (s .result) (s .ensures),
+      λ k. found-same (a .g) (a .b .id) (known-place (view (a .g)) (request x) (c .before .before .before .before .before .before .before .choose-place .ensures (a .g) (request x) refl refl .known-is) (chosen (c .before .before .before .before .before)) k) (s .result) (s .ensures),
     )
-
-same-length : tie.Need-same-length
-same-length c = search needs
 
 returns-5 : tie.Need-returns-5
 unfolding requestOf
-returns-5 c =
-    λ l.
-    let s = c .before .before .before .before .before .before .before .before .before .before .before .before .before .before .before .before .before .before .before in
-    let b = s .args .records .now in
-    let at = chosen (c .before .before .before .before .before .before .before .before) in
-    let e = sym (at-end-is (s .args .g)) ∙ sym (c .before .before .before .before .before .before .at-end .ensures) ∙ c .before .before .before .before .before .if3 .left in
-    c .before .before .join-at .ensures (s .args .owned .now) l
-    ∙ joins-there (group s) (request s) b l (c .before .before .before .before .before .before .before .before .before .before .choose-place .ensures (s .args .g) refl .known-is) (at .first)
-    ∙ sym (join-step (group s) (request s) b l (in-time (c .before .before .before .before .before .before .before .before .before .before .before .before .before .before .before)) (well-formed (c .before .before .before .before .before .before .before .before .before .before .before .before .before)) (at .found) e)
+returns-5 c = (
+  c .before .before .join-at .ensures .0,
+  λ l.
+      let s = c .before .before .before .before .before .before .before .before .before .before .before .before .before .before .before .before .before .before .before in
+      let b = s .args .records .now in
+      let at = chosen (c .before .before .before .before .before .before .before .before) in
+      let e = sym (at-end-is (s .args .g)) ∙ sym (c .before .before .before .before .before .before .at-end .ensures) ∙ c .before .before .before .before .before .if3 .left in
+      c .before .before .join-at .ensures .1 (s .args .owned .now) l
+      ∙ joins-there (group s) (request s) b l (c .before .before .before .before .before .before .before .before .before .before .choose-place .ensures (s .args .g) (request s) refl refl .known-is) (at .first)
+      ∙ sym (join-step (group s) (request s) b l (in-time (c .before .before .before .before .before .before .before .before .before .before .before .before .before .before .before)) (well-formed (c .before .before .before .before .before .before .before .before .before .before .before .before .before)) (at .found) e),
+)
 
 pub join-spec : {M : Type 1} → statement M
 join-spec =
     tie.close
     (tie.spec
-    goes-back-requires
-    refused-requires
+    (λ c κs. tt)
+    (λ c κs. tt)
     returns
-    is-bad-join-requires
-    refused-requires-2
+    (λ c κs. tt)
+    (λ c κs. tt)
     returns-2
-    choose-place-requires
-    enum-known-found
-    enum-told
-    refused-requires-3
+    (λ c κs. tt)
+    (λ c. search needs)
+    (λ c. search needs)
+    (λ c κs. tt)
     returns-3
-    at-end-requires
-    refused-requires-4
+    (λ c κs. tt)
+    (λ c κs. tt)
     returns-4
-    seat-at-requires
+    (λ c κs. tt)
     join-at-requires
-    same-length
+    (λ c. search needs)
     returns-5)

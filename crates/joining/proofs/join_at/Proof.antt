@@ -8,26 +8,15 @@ use mir.Facts.{toZ-ofZ}
 use Rattle.rules.specs.Refusals.{timeoutOr}
 use Rattle.joining.proofs.JoinRows.{join-no-room, join-done}
 use borrow.Author.Needs.{needs}
+use Rattle.events.proofs.Carrying.{keeps-refused}
 use Rattle.joining.proofs.join_at.Statement.{statement}
 use Rattle.joining.proofs.join_at.Tie as tie
 
 add-epoch : tie.Need-add-epoch
 add-epoch c = omega (arith, c .before .before .before .pre .0)
 
-timeout-or-requires : tie.Need-timeout-or-requires
-timeout-or-requires c κs = tt
-
-subscription-of-requires : tie.Need-subscription-of-requires
-subscription-of-requires c κs = tt
-
 joiner-at-requires : tie.Need-joiner-at-requires
 joiner-at-requires c κs = c .before .before .before .before .before .before .pre .1
-
-join-records-len-requires : tie.Need-join-records-len-requires
-join-records-len-requires c κs = tt
-
-refused-requires : tie.Need-refused-requires
-refused-requires c κs = tt
 
 -- the timeout is handed on as it came
 timeout-is : (c : tie.After-timeout-or) → c .timeout-or .result ≡ timeoutOr (c .before .before .before .before .before .args .b .timeout) 0
@@ -36,50 +25,45 @@ timeout-is c =
     c .timeout-or .ensures ∙ ap (λ (t : _). timeoutOr t 0) (toZ-ofZ f)
 
 returns : tie.Need-returns
-returns c =
-    λ owned l.
-    let a = c .before .before .before .before .before .before .before .before .before .before .before .args in
-    join-no-room (a .g) (a .p .0) (a .known) (a .b) owned
-    (timeout-is (c .before .before .before .before .before .before)) (c .before .before .before .before .before .subscription-of .ensures) (c .before .before .before .before .joiner-at .ensures .1)
-    (a .records .now) l
-    (omega (arith, c .before .before .join-records-len .ensures .0, c .before .if1 .taken)) (c .refused .ensures)
+returns c = (
+  keeps-refused (c .refused .ensures),
+  λ owned l.
+      let a = c .before .before .before .before .before .before .before .before .before .before .before .args in
+      join-no-room (a .g) (a .p) (a .known) (a .b) owned
+      (timeout-is (c .before .before .before .before .before .before)) (c .before .before .before .before .before .given-subscription .ensures) (c .before .before .before .before .joiner-at .ensures .1)
+      (a .records .now) l
+      (omega (arith, c .before .before .join-records-len .ensures .0, c .before .if1 .taken)) (c .refused .ensures),
+)
 
 put-join-records-requires : tie.Need-put-join-records-requires
 put-join-records-requires c κs = omega (arith, c .before .before .join-records-len .ensures .0, c .before .if1 .left)
 
-vacate-requires : tie.Need-vacate-requires
-vacate-requires c κs = tt
-
-with-seat-requires : tie.Need-with-seat-requires
-with-seat-requires c κs = tt
-
-same-length : tie.Need-same-length
-same-length c = search needs
-
 returns-2 : tie.Need-returns-2
-returns-2 c =
-    λ owned l.
-    let a = c .before .before .before .before .before .before .before .before .before .before .before .before .before .before .before .before .before .args in
-    let joiner = c .before .before .before .before .before .before .before .before .before .before .joiner-at in
-    join-done (a .g) (a .p .0) (a .known) (a .b) owned
-    (timeout-is (c .before .before .before .before .before .before .before .before .before .before .before .before)) (c .before .before .before .before .before .before .before .before .before .before .before .subscription-of .ensures) (joiner .ensures .1)
-    (a .records .now) l (c .before .before .vacate .result) (c .with-seat .result)
-    (omega (arith, c .before .before .before .before .before .before .before .before .join-records-len .ensures .0, c .before .before .before .before .before .before .before .if1 .left))
-    (joiner .ensures .0) (c .before .before .vacate .ensures) (c .with-seat .ensures) (c .before .before .before .before .before .put-join-records .ensures)
+returns-2 c = (
+  tt,
+  λ owned l.
+      let a = c .before .before .before .before .before .before .before .before .before .before .before .before .before .before .before .before .before .args in
+      let joiner = c .before .before .before .before .before .before .before .before .before .before .joiner-at in
+      join-done (a .g) (a .p) (a .known) (a .b) owned
+      (timeout-is (c .before .before .before .before .before .before .before .before .before .before .before .before)) (c .before .before .before .before .before .before .before .before .before .before .before .given-subscription .ensures) (joiner .ensures .1)
+      (a .records .now) l (c .before .before .vacate .result) (c .with-seat .result)
+      (omega (arith, c .before .before .before .before .before .before .before .before .join-records-len .ensures .0, c .before .before .before .before .before .before .before .if1 .left))
+      (joiner .ensures .0) (c .before .before .vacate .ensures) (c .with-seat .ensures) (c .before .before .before .before .before .put-join-records .ensures),
+)
 
 pub join-at-spec : {M : Type 1} → statement M
 join-at-spec =
     tie.close
     (tie.spec
     add-epoch
-    timeout-or-requires
-    subscription-of-requires
+    (λ c κs. tt)
+    (λ c κs. tt)
     joiner-at-requires
-    join-records-len-requires
-    refused-requires
+    (λ c κs. tt)
+    (λ c κs. tt)
     returns
     put-join-records-requires
-    vacate-requires
-    with-seat-requires
-    same-length
+    (λ c κs. tt)
+    (λ c κs. tt)
+    (λ c. search needs)
     returns-2)

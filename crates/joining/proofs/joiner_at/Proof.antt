@@ -27,21 +27,6 @@ view-length c =
     let nw : length (t .waiting) ≡ slotCount = search needs in
     view-slots (t .target) (t .holder) (t .waiting) nt nh nw
 
-gather-requires : tie.Need-gather-requires
-gather-requires c κs = tt
-
-gathered-requires : tie.Need-gathered-requires
-gathered-requires c κs = tt
-
-rejoin-requires : tie.Need-rejoin-requires
-rejoin-requires c κs = tt
-
-seat-requires : tie.Need-seat-requires
-seat-requires c κs = tt
-
-is-empty-requires : tie.Need-is-empty-requires
-is-empty-requires c κs = tt
-
 returns : tie.Need-returns
 returns c =
     let a = c .before .before .before .before .before .before .before .before .before .args in
@@ -52,9 +37,6 @@ returns c =
       rw known (sym (picks-any (targeted (a .p .0)) (viewTables (a .tables)) (view-length (c .before .before .before .before .before .before .before .before .before)) (sets .result .target) (sets .ensures .target-are) (set-length (c .before .before .before .before .before .before .before)) (c .is-empty .result) (c .is-empty .ensures))),
     )
 
-joined-requires : tie.Need-joined-requires
-joined-requires c κs = tt
-
 returns-2 : tie.Need-returns-2
 returns-2 c = (c .joined .ensures, rw (c .before .before .if1 .left))
 
@@ -62,11 +44,11 @@ pub joiner-at-spec : {M : Type 1} → statement M
 joiner-at-spec =
     tie.close
     (tie.spec
-    gather-requires
-    gathered-requires
-    rejoin-requires
-    seat-requires
-    is-empty-requires
+    (λ c κs. tt)
+    (λ c κs. tt)
+    (λ c κs. tt)
+    (λ c κs. tt)
+    (λ c κs. tt)
     returns
-    joined-requires
+    (λ c κs. tt)
     returns-2)

@@ -12,12 +12,12 @@ use Rattle.group.specs.declared.Seat.{Seat}
 use Rattle.group.specs.View.{view, viewSeat}
 use Rattle.events.specs.Outcomes.{took}
 use Rattle.ordinary.specs.Plans.{planned}
-use Rattle.events.proofs.Carrying.{no-room-records, no-room-list, carried-out}
+use Rattle.events.proofs.Carrying.{keeps-refused, no-room-records, no-room-list, carried-out}
 use Rattle.ordinary.proofs.carry.Statement.{statement}
 use Rattle.ordinary.proofs.carry.Tie as tie
 
 abbrev effect : tie.Start → Effect
-effect c = let a = c .args in planned (view (a .g)) (a .p .0) (a .tick) (a .k)
+effect c = let a = c .args in planned (view (a .g)) (a .p) (a .tick) (a .k)
 
 size-is : (c : tie.After-ordinary-records-len) → c .ordinary-records-len .result ≡ length (allBytes (effect (c .before .before .before .before .before .before .before) .records))
 unfolding planned
@@ -27,27 +27,12 @@ count-is : (c : tie.After-count) → c .count .result ≡ length (effect (c .bef
 unfolding planned
 count-is c = c .count .ensures
 
-ordinary-records-len-requires : tie.Need-ordinary-records-len-requires
-ordinary-records-len-requires c κs = tt
-
-refused-requires : tie.Need-refused-requires
-refused-requires c κs = tt
-
 returns : tie.Need-returns
 unfolding planned
 returns c =
     let x = c .before .before .before .before .before .before .before .before .before in
     let a = x .args in
-    no-room-records (effect x) (a .records .now) (a .list .now) (omega (arith, size-is (c .before .before), c .before .if1 .taken)) (c .refused .ensures)
-
-count-requires : tie.Need-count-requires
-count-requires c κs = tt
-
-cast-if2 : tie.Need-cast-if2
-cast-if2 c = search needs
-
-refused-requires-2 : tie.Need-refused-requires-2
-refused-requires-2 c κs = tt
+    (keeps-refused (c .refused .ensures), no-room-records (effect x) (a .records .now) (a .list .now) (omega (arith, size-is (c .before .before), c .before .if1 .taken)) (c .refused .ensures))
 
 returns-2 : tie.Need-returns-2
 unfolding planned
@@ -56,25 +41,7 @@ returns-2 c =
     let a = x .args in
     let size = c .before .before .before .before in
     let count = c .before .before in
-    no-room-list (effect x) (a .records .now) (a .list .now) (omega (arith, size-is size, c .before .before .before .if1 .left)) (omega (arith, count-is count, c .before .if2 .taken)) (c .refused2 .ensures)
-
-put-ordinary-records-requires : tie.Need-put-ordinary-records-requires
-put-ordinary-records-requires c κs = search needs
-
-list-slots-requires : tie.Need-list-slots-requires
-list-slots-requires c κs = search needs
-
-seat-requires : tie.Need-seat-requires
-seat-requires c κs = tt
-
-with-seat-requires : tie.Need-with-seat-requires
-with-seat-requires c κs = tt
-
-same-length : tie.Need-same-length
-same-length c = search needs
-
-same-length-2 : tie.Need-same-length-2
-same-length-2 c = search needs
+    (keeps-refused (c .refused2 .ensures), no-room-list (effect x) (a .records .now) (a .list .now) (omega (arith, size-is size, c .before .before .before .if1 .left)) (omega (arith, count-is count, c .before .if2 .taken)) (c .refused2 .ensures))
 
 returns-3 : tie.Need-returns-3
 unfolding planned viewSeat
@@ -87,27 +54,29 @@ returns-3 c =
     let out = c .with-seat .result in
     let put = c .before .before .before .before .before .before .before .before .before .put-ordinary-records in
     let told = c .before .before .before .before .before .list-slots in
+    let done =
     (λ i. took (record { group = out; answer = Assigned (record { epoch = m .epoch; interval = heartbeatInterval; count = count-is count i }); written = put .result }) (put .last .0) (told .last .0))
     ∙ carried-out (effect x) (a .records .now) (a .list .now) (view (a .g)) out
     (omega (arith, size-is size, c .before .before .before .before .before .before .before .before .before .before .before .before .before .if1 .left)) (omega (arith, count-is count, c .before .before .before .before .before .before .before .before .before .before .before .if2 .left))
     (c .with-seat .ensures ∙ ap (λ (s : Seat). changed (view (a .g)) (a .k .epoch) (a .tick) (set (view (a .g) .members) (a .p .0) (viewSeat s)) (viewTables (a .k .tables))) (c .before .before .seat .ensures))
-    (put .ensures) (told .ensures .bytes)
+    (put .ensures) (told .ensures .bytes) in
+    (tt, done)
 
 pub carry-spec : {M : Type 1} → statement M
 carry-spec =
     tie.close
     (tie.spec
-    ordinary-records-len-requires
-    refused-requires
+    (λ c κs. tt)
+    (λ c κs. tt)
     returns
-    count-requires
-    cast-if2
-    refused-requires-2
+    (λ c κs. tt)
+    (λ c. search needs)
+    (λ c κs. tt)
     returns-2
-    put-ordinary-records-requires
-    list-slots-requires
-    seat-requires
-    with-seat-requires
-    same-length
-    same-length-2
+    (λ c κs. search needs)
+    (λ c κs. search needs)
+    (λ c κs. tt)
+    (λ c κs. tt)
+    (λ c. search needs)
+    (λ c. search needs)
     returns-3)

@@ -4,6 +4,7 @@ use mathlib.Core.Path.{_≡_, refl, _∙_}
 use borrow.Author.Needs.{needs}
 use Rattle.rules.specs.Effects.{topicRecords, topicEffect}
 use Rattle.rules.specs.declared.Answer.the-variants.{Done}
+use Rattle.records.specs.Views.{viewTopicMetadata}
 use Rattle.group.proofs.Rows.{topic-good}
 use Rattle.group.proofs.Views.{entry-topic}
 use Rattle.group.specs.View.{view}
@@ -18,7 +19,7 @@ start c = c .before .before .before .before
 
 -- what the code stores is what the effect does
 recorded : (c : tie.After-topic-records-len)
-    → topicRecords (start c .args .number) (start c .args .id) (start c .args .count) (c .before .before .topic-changes .result) (start c .args .raises) (c .before .epoch-after .result)
+    → topicRecords (c .before .before .topic-changes .result) (viewTopicMetadata (record { number = start c .args .number; id = start c .args .id; count = start c .args .count })) (start c .args .raises) (c .before .epoch-after .result)
     ≡ topicEffect (view (start c .args .g)) (start c .args .number) (start c .args .id) (start c .args .count) .records
 recorded c =
     let a = start c .args in

@@ -64,8 +64,11 @@ same-length c = search needs
 returns : tie.Need-returns
 unfolding viewKind
 returns c =
-    let a = c .before .before .before .before .before .before .before .before .before .before .before .args in
-    by-kind (c .before .before .before .before .before .before) (c .before .before .before .before .enum-told .given .1) (c .before .before .join .ensures (a .list .now))
+    let o = c .before .before .join .ensures in (
+      o .0,
+      let a = c .before .before .before .before .before .before .before .before .before .before .before .args in
+          by-kind (c .before .before .before .before .before .before) (c .before .before .before .before .enum-told .given .1) (o .1 (a .list .now)),
+    )
 
 same-length-2 : tie.Need-same-length-2
 same-length-2 c = search needs
@@ -73,14 +76,20 @@ same-length-2 c = search needs
 returns-2 : tie.Need-returns-2
 unfolding viewKind
 returns-2 c =
-    let a = c .before .before .before .before .before .before .before .before .before .before .before .args in
-    by-kind (c .before .before .before .before .before .before) (c .before .before .before .before .enum-told2 .given .1) (c .before .before .leave .ensures .1 (a .owned .now) (a .list .now))
+    let o = c .before .before .leave .ensures in (
+      o .0,
+      let a = c .before .before .before .before .before .before .before .before .before .before .before .args in
+          by-kind (c .before .before .before .before .before .before) (c .before .before .before .before .enum-told2 .given .1) (o .1 (a .owned .now) (a .list .now)),
+    )
 
 returns-3 : tie.Need-returns-3
 unfolding viewKind
 returns-3 c =
-    let a = c .before .before .before .before .before .before .before .before .args in
-    by-kind (c .before .before .before) (c .before .enum-told3 .given .1) (c .refuse-epoch .ensures .1 (a .owned .now) (a .records .now) (a .list .now))
+    let o = c .refuse-epoch .ensures in (
+      o .0,
+      let a = c .before .before .before .before .before .before .before .before .args in
+          by-kind (c .before .before .before) (c .before .enum-told3 .given .1) (o .1 (a .owned .now) (a .records .now) (a .list .now)),
+    )
 
 same-length-3 : tie.Need-same-length-3
 same-length-3 c = search needs
@@ -91,7 +100,8 @@ same-length-4 c = search needs
 returns-4 : tie.Need-returns-4
 unfolding viewKind
 returns-4 c =
-    by-kind (c .before .before .before .before .before .before .before .before .before .before) (c .before .before .before .before .before .before .before .before .kind .given .1) (c .before .before .before .before .ordinary .ensures)
+    let o = c .before .before .before .before .ordinary .ensures in
+    (o .0, by-kind (c .before .before .before .before .before .before .before .before .before .before) (c .before .before .before .before .before .before .before .before .kind .given .1) (o .1))
 
 pub heartbeat-spec : {M : Type 1} → statement M
 heartbeat-spec =

@@ -3,6 +3,7 @@ use mathlib.Core.Path.{_∙_}
 use Rattle.group.proofs.Installing.{first-is}
 use Rattle.group.proofs.entries.first_bad.Statement.{statement}
 use Rattle.group.proofs.entries.first_bad.Tie as tie
+use Rattle.rules.specs.Refusals.{firstBad}
 
 counts-of-requires : tie.Need-counts-of-requires
 counts-of-requires c κs = tt
@@ -14,6 +15,7 @@ first-bad-of-requires : tie.Need-first-bad-of-requires
 first-bad-of-requires c κs = tt
 
 returns : tie.Need-returns
+unfolding firstBad
 returns c =
     let a = c .before .before .before .before .before .before .args in
     rw (c .before .before .counts-of .ensures, c .before .subscriptions-of .ensures) at (c .first-bad-of .ensures) ∙ first-is (a .g) 0 (a .entries .now)

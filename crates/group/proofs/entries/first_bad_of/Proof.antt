@@ -4,7 +4,8 @@ use native.Mathlib.Omega.{arith}
 use mathlib.Core.Path.{_≡_, refl, sym, _∙_}
 use lib.ListN.{length, drop}
 use borrow.Author.Needs.{needs}
-use Rattle.group.specs.Entries.{counts, subscriptions, entryBad, firstWith}
+use Rattle.group.specs.Entries.{counts, subscriptions, entryBad}
+use Rattle.rules.specs.Basics.{firstWith}
 use Rattle.group.proofs.Installing.{first-found, first-later, first-none}
 use Rattle.group.proofs.entries.first_bad_of.Statement.{statement}
 use Rattle.group.proofs.entries.first_bad_of.Tie as tie

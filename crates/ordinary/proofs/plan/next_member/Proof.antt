@@ -11,32 +11,12 @@ use Rattle.ordinary.specs.Plans.{steppedBy, memberNext, storedTimeout}
 use Rattle.ordinary.proofs.plan.next_member.Statement.{statement}
 use Rattle.ordinary.proofs.plan.next_member.Tie as tie
 
--- Each call returns what its definition says of what the call before it returned. Assumes nothing.
-
 -- the timeout is handed on as it came
 timeout-is : (c : tie.After-timeout-or) → c .timeout-or .result ≡ storedTimeout (c .before .before .before .before .before .args .seat) (c .before .before .before .before .before .args .b)
 timeout-is c =
     let a = c .before .before .before .before .before .args in
     let f : SFits w32 (a .b .timeout) = search needs in
     c .timeout-or .ensures ∙ ap (λ (t : _). timeoutOr t (a .seat .timeout)) (toZ-ofZ f)
-
-subscription-or-requires : tie.Need-subscription-or-requires
-subscription-or-requires c κs = tt
-
-timeout-or-requires : tie.Need-timeout-or-requires
-timeout-or-requires c κs = tt
-
-gathered-requires : tie.Need-gathered-requires
-gathered-requires c κs = tt
-
-store-requires : tie.Need-store-requires
-store-requires c κs = tt
-
-hear-requires : tie.Need-hear-requires
-hear-requires c κs = tt
-
-stepped-requires : tie.Need-stepped-requires
-stepped-requires c κs = tt
 
 returns : tie.Need-returns
 unfolding memberNext
@@ -52,10 +32,10 @@ pub next-member-spec : {M : Type 1} → statement M
 next-member-spec =
     tie.close
     (tie.spec
-    subscription-or-requires
-    timeout-or-requires
-    gathered-requires
-    store-requires
-    hear-requires
-    stepped-requires
+    (λ c κs. tt)
+    (λ c κs. tt)
+    (λ c κs. tt)
+    (λ c κs. tt)
+    (λ c κs. tt)
+    (λ c κs. tt)
     returns)

@@ -10,20 +10,11 @@ returns : tie.Need-returns
 unfolding steppedBy
 returns c = rw (c .if1 .taken)
 
-free-requires : tie.Need-free-requires
-free-requires c κs = tt
-
-revoke-requires : tie.Need-revoke-requires
-revoke-requires c κs = tt
-
 returns-2 : tie.Need-returns-2
 unfolding steppedBy
 returns-2 c =
     let a = c .before .before .before .before .before .before .args in
     rw (c .before .before .before .before .before .if1 .left, c .before .before .if2 .taken) (c .revoke .ensures ∙ ap (λ (m : Member). memberRevoked m (a .step .assigned) (a .step .revoking) (a .tick)) (c .before .before .before .before .free .ensures))
-
-advance-requires : tie.Need-advance-requires
-advance-requires c κs = tt
 
 returns-3 : tie.Need-returns-3
 unfolding steppedBy
@@ -33,4 +24,4 @@ returns-3 c =
 
 pub stepped-spec : {M : Type 1} → statement M
 stepped-spec =
-    tie.close (tie.spec returns free-requires revoke-requires returns-2 advance-requires returns-3)
+    tie.close (tie.spec returns (λ c κs. tt) (λ c κs. tt) returns-2 (λ c κs. tt) returns-3)

@@ -1,21 +1,12 @@
--- `records::batches::topic_records_len` meets its contract: the sum of its records' lengths.
+-- The sum of its records' lengths. Assumes nothing.
 use native.Mathlib.Omega.{arith}
-use Rattle.records.proofs.Lists.{topic-records-length}
+use Rattle.records.specs.Views.{viewTopicMetadata}
+use Rattle.records.proofs.Lists.{parts-length, topicParts, topic-parts}
 use Rattle.records.proofs.batches.topic_records_len.Statement.{statement}
 use Rattle.records.proofs.batches.topic_records_len.Tie as tie
 
-topic-len-if-requires : tie.Need-topic-len-if-requires
-topic-len-if-requires c κs = tt
-
-group-epoch-len-if-requires : tie.Need-group-epoch-len-if-requires
-group-epoch-len-if-requires c κs = tt
-
-add-result : tie.Need-add-result
-add-result c = omega arith
-
 returns : tie.Need-returns
-returns c = let a = c .before .before .args in (omega (arith, topic-records-length (a .topic) (a .id) (a .count) (a .changes) (a .raises) (a .epoch)), omega arith)
+returns c = let a = c .before .before .args in (omega (arith, parts-length (topicParts (a .changes) (viewTopicMetadata (a .t)) (a .raises) (a .epoch)) (topic-parts (a .changes) (viewTopicMetadata (a .t)) (a .raises) (a .epoch))), omega arith)
 
 pub topic-records-len-spec : {M : Type 1} → statement M
-topic-records-len-spec =
-    tie.close (tie.spec topic-len-if-requires group-epoch-len-if-requires add-result returns)
+topic-records-len-spec = tie.close (tie.spec (λ c κs. tt) (λ c κs. tt) (λ c. omega arith) returns)

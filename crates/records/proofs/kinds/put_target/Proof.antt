@@ -1,59 +1,37 @@
--- `records::kinds::put_target` meets its contract: the three fields of a target, one after the other.
+-- The fields of the record, one after the other. Assumes nothing.
 use mathlib.Core.Path.{refl}
-use mathlib.Core.List.{List, [], _∷_}
 use Prim.Native.Nat.{ℕ}
 use lib.ListN.{drop}
 use borrow.Author.Needs.{needs}
-use Rattle.rules.specs.Records.{number, setBytes, bytesOf, targetIs}
-use Rattle.slots.specs.Set.{slotsOf}
-use Rattle.numbers.proofs.Writing.{Writing, begin, put-at, room-at, same-len, ended}
-use Rattle.records.proofs.Parts.{target-fields}
+use Rattle.rules.specs.Records.{bytesOf, targetIs}
+use Rattle.numbers.proofs.Writing.{Stage, begun, first, next-at, same-len, room-at, room₀, ended}
+use Rattle.records.specs.Views.{viewTarget}
+use Rattle.records.proofs.Parts.{targetParts, target-fields}
 use Rattle.records.proofs.kinds.put_target.Statement.{statement}
 use Rattle.records.proofs.kinds.put_target.Tie as tie
 
 -- the buffer after the first n fields
-abbrev After : ℕ → tie.Start → List ℕ → ℕ → Type 0
-After n c buf at =
-    let a = c .args in
-    Writing (bytesOf (targetIs (a .place .0) (slotsOf (a .target .words)))) (a .buf .now) buf at (drop n (number 7 ∷ number (a .place .0) ∷ setBytes (slotsOf (a .target .words)) ∷ []))
+abbrev After : ℕ → tie.Start → Type 0
+After n c = let x = viewTarget (c .args .t) in Stage (bytesOf (targetIs x)) (c .args .buf .now) (drop n (targetParts x))
 
-s₀ : (c : tie.Start) → After 0 c (c .args .buf .now) 0
-s₀ c = let a = c .args in begin _ _ _ (target-fields (a .place .0) (slotsOf (a .target .words))) (c .pre)
+abbrev s₀ : (c : tie.Start) → After 0 c
+s₀ c = begun (target-fields (viewTarget (c .args .t))) (c .pre)
 
-s₁ : (c : tie.After-put-number-at) → After 1 (c .before .before .before) (c .put-number-at .last .0) (c .put-number-at .result)
-s₁ c = put-at (s₀ (c .before .before .before)) (c .put-number-at .ensures)
+abbrev s₁ : (c : tie.After-put-two) → After 1 (c .before .before .before .before .before)
+unfolding viewTarget
+s₁ c = first (s₀ (c .before .before .before .before .before) .run) (c .put-two .ensures)
 
-s₂ : (c : tie.After-put-number-at2) → After 2 (c .before .before .before .before .before .before .before) (c .put-number-at2 .last .0) (c .put-number-at2 .result)
-s₂ c = put-at (s₁ (c .before .before .before .before)) (c .put-number-at2 .ensures)
-
-s₃ : (c : tie.After-put-set-at) → After 3 (c .before .before .before .before .before .before .before .before .before .before .before) (c .put-set-at .last .0) (c .put-set-at .result)
-s₃ c = put-at (s₂ (c .before .before .before .before)) (c .put-set-at .ensures)
-
-put-number-at-requires : tie.Need-put-number-at-requires
-put-number-at-requires c κs = room-at (s₀ (c .before .before))
-
-cast-put-number-at : tie.Need-cast-put-number-at
-cast-put-number-at c = search needs
-
-put-number-at-requires-2 : tie.Need-put-number-at-requires-2
-put-number-at-requires-2 c κs = room-at (s₁ (c .before .before .before))
-
-put-set-at-requires : tie.Need-put-set-at-requires
-put-set-at-requires c κs = room-at (s₂ (c .before .before .before))
-
-same-length : tie.Need-same-length
-same-length c = same-len (s₃ (c .before .before))
-
-returns : tie.Need-returns
-returns c = ended (s₃ (c .before .before)) refl
+abbrev s₂ : (c : tie.After-put-set-at) → After 2 (c .before .before .before .before .before .before .before .before .before)
+unfolding viewTarget
+s₂ c = next-at (s₁ (c .before .before .before .before)) (c .put-set-at .ensures)
 
 pub put-target-spec : {M : Type 1} → statement M
+unfolding viewTarget
 put-target-spec =
     tie.close
     (tie.spec
-    put-number-at-requires
-    cast-put-number-at
-    put-number-at-requires-2
-    put-set-at-requires
-    same-length
-    returns)
+    (λ c. search needs)
+    (λ c κs. room₀ (s₀ (c .before .before .before .before) .run))
+    (λ c κs. room-at (s₁ (c .before .before .before) .run))
+    (λ c. same-len (s₂ (c .before .before) .run))
+    (λ c. ended (s₂ (c .before .before) .run) refl))

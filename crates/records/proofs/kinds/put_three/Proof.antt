@@ -1,54 +1,37 @@
--- `records::kinds::put_three` meets its contract: three numbers, one after the other.
+-- The numbers, one after the other. Assumes nothing.
 use mathlib.Core.Path.{refl}
-use mathlib.Core.List.{List, [], _∷_}
+use mathlib.Core.List.{[], _∷_, map}
 use Prim.Native.Nat.{ℕ}
 use lib.ListN.{drop}
 use Rattle.rules.specs.Records.{number}
+use Rattle.numbers.proofs.Writing.{Stage, begun, next-at, room-at, same-len, ended}
 use Rattle.records.specs.Fields.{numbers}
-use Rattle.numbers.proofs.Writing.{Writing, begin, put-at, room-at, same-len, ended}
+use Rattle.records.proofs.Parts.{numbers-parts}
 use Rattle.records.proofs.kinds.put_three.Statement.{statement}
 use Rattle.records.proofs.kinds.put_three.Tie as tie
 
--- the buffer after the first n fields
-abbrev After : ℕ → tie.Start → List ℕ → ℕ → Type 0
-After n c buf at =
-    let a = c .args in
-    Writing (numbers (a .first ∷ a .second ∷ a .third ∷ [])) (a .buf .now) buf at (drop n (number (a .first) ∷ number (a .second) ∷ number (a .third) ∷ []))
+-- the buffer after the first n numbers
+abbrev After : ℕ → tie.Start → Type 0
+After n c = let a = c .args in Stage (numbers (a .first ∷ a .second ∷ a .third ∷ [])) (a .buf .now) (drop n (map number (a .first ∷ a .second ∷ a .third ∷ [])))
 
-s₀ : (c : tie.Start) → After 0 c (c .args .buf .now) 0
-unfolding numbers
-s₀ c = begin _ _ _ refl (c .pre)
+abbrev s₀ : (c : tie.Start) → After 0 c
+s₀ c = let a = c .args in begun (numbers-parts (a .first ∷ a .second ∷ a .third ∷ [])) (c .pre)
 
-s₁ : (c : tie.After-put-number-at) → After 1 (c .before .before .before) (c .put-number-at .last .0) (c .put-number-at .result)
-s₁ c = put-at (s₀ (c .before .before .before)) (c .put-number-at .ensures)
+abbrev s₁ : (c : tie.After-put-number-at) → After 1 (c .before .before .before)
+s₁ c = next-at (s₀ (c .before .before .before)) (c .put-number-at .ensures)
 
-s₂ : (c : tie.After-put-number-at2) → After 2 (c .before .before .before .before .before .before .before) (c .put-number-at2 .last .0) (c .put-number-at2 .result)
-s₂ c = put-at (s₁ (c .before .before .before .before)) (c .put-number-at2 .ensures)
+abbrev s₂ : (c : tie.After-put-number-at2) → After 2 (c .before .before .before .before .before .before .before)
+s₂ c = next-at (s₁ (c .before .before .before .before)) (c .put-number-at2 .ensures)
 
-s₃ : (c : tie.After-put-number-at3) → After 3 (c .before .before .before .before .before .before .before .before .before .before .before) (c .put-number-at3 .last .0) (c .put-number-at3 .result)
-s₃ c = put-at (s₂ (c .before .before .before .before)) (c .put-number-at3 .ensures)
-
-put-number-at-requires : tie.Need-put-number-at-requires
-put-number-at-requires c κs = room-at (s₀ (c .before .before))
-
-put-number-at-requires-2 : tie.Need-put-number-at-requires-2
-put-number-at-requires-2 c κs = room-at (s₁ (c .before .before .before))
-
-put-number-at-requires-3 : tie.Need-put-number-at-requires-3
-put-number-at-requires-3 c κs = room-at (s₂ (c .before .before .before))
-
-same-length : tie.Need-same-length
-same-length c = same-len (s₃ (c .before .before))
-
-returns : tie.Need-returns
-returns c = ended (s₃ (c .before .before)) refl
+abbrev s₃ : (c : tie.After-put-number-at3) → After 3 (c .before .before .before .before .before .before .before .before .before .before .before)
+s₃ c = next-at (s₂ (c .before .before .before .before)) (c .put-number-at3 .ensures)
 
 pub put-three-spec : {M : Type 1} → statement M
 put-three-spec =
     tie.close
     (tie.spec
-    put-number-at-requires
-    put-number-at-requires-2
-    put-number-at-requires-3
-    same-length
-    returns)
+    (λ c κs. room-at (s₀ (c .before .before) .run))
+    (λ c κs. room-at (s₁ (c .before .before .before) .run))
+    (λ c κs. room-at (s₂ (c .before .before .before) .run))
+    (λ c. same-len (s₃ (c .before .before) .run))
+    (λ c. ended (s₃ (c .before .before) .run) refl))

@@ -1,18 +1,15 @@
--- `records::optional::group_epoch_len_if` meets its contract: if it is on, the length is the record's; if it is off, 0.
-use mathlib.Core.Path.{refl}
+-- If it is on, the length is the record's; if it is off, 0. Assumes nothing.
 use native.Mathlib.Omega.{arith}
-use Rattle.records.proofs.Lists.{only-on, only-off}
+use Rattle.rules.specs.Records.{groupEpoch}
+use Rattle.records.proofs.Lists.{length-on, length-off}
 use Rattle.records.proofs.optional.group_epoch_len_if.Statement.{statement}
 use Rattle.records.proofs.optional.group_epoch_len_if.Tie as tie
 
-group-epoch-len-requires : tie.Need-group-epoch-len-requires
-group-epoch-len-requires c κs = tt
-
 returns : tie.Need-returns
-returns c = rw (c .before .if1 .taken, only-on) (c .group-epoch-len .ensures)
+returns c = (length-off (groupEpoch (c .before .args .epoch)) (c .before .args .raises) (c .if1 .taken), omega arith)
 
 returns-2 : tie.Need-returns-2
-returns-2 c = rw (c .if1 .left, only-off) (refl, omega arith)
+returns-2 c = (length-on (groupEpoch (c .before .before .args .epoch)) (c .before .before .args .raises) (c .before .if1 .left) (c .group-epoch-len .ensures .0), c .group-epoch-len .ensures .1)
 
 pub group-epoch-len-if-spec : {M : Type 1} → statement M
-group-epoch-len-if-spec = tie.close (tie.spec group-epoch-len-requires returns returns-2)
+group-epoch-len-if-spec = tie.close (tie.spec returns (λ c κs. tt) returns-2)

@@ -1,23 +1,19 @@
--- `records::optional::put_current_if` meets its contract: if it is on, the bytes are the record's; if it is off, there are none.
-use mathlib.Core.Path.{refl}
+-- If it is on, the bytes are the record's; if it is off, there are none. Assumes nothing.
 use borrow.Author.Needs.{needs}
-use Rattle.rules.specs.Step.{overlay}
-use Rattle.records.proofs.Lists.{only-on, only-off}
+use Rattle.rules.specs.Records.{currentIs}
+use Rattle.records.specs.Views.{viewCurrent}
+use Rattle.records.proofs.Lists.{room-on, wrote-on, wrote-off}
 use Rattle.records.proofs.optional.put_current_if.Statement.{statement}
 use Rattle.records.proofs.optional.put_current_if.Tie as tie
 
 put-current-requires : tie.Need-put-current-requires
-put-current-requires c κs = rw (c .before .if1 .taken, only-on) at (c .before .before .before .pre)
-
-same-length : tie.Need-same-length
-same-length c = search needs
+put-current-requires c κs = room-on (currentIs (viewCurrent (c .before .before .before .args .c))) (c .before .if1 .taken) (c .before .before .before .pre)
 
 returns : tie.Need-returns
-returns c = rw (c .before .before .before .before .if1 .taken, only-on) (c .before .before .put-current .ensures)
+returns c = wrote-on (currentIs (viewCurrent (c .before .before .before .before .before .before .args .c))) (c .before .before .before .before .if1 .taken) (c .before .before .put-current .ensures)
 
 returns-2 : tie.Need-returns-2
-unfolding overlay
-returns-2 c = rw (c .if1 .left, only-off) (record { count = refl; bytes = refl })
+returns-2 c = wrote-off (currentIs (viewCurrent (c .before .before .args .c))) (c .if1 .left)
 
 pub put-current-if-spec : {M : Type 1} → statement M
-put-current-if-spec = tie.close (tie.spec put-current-requires same-length returns returns-2)
+put-current-if-spec = tie.close (tie.spec put-current-requires (λ c. search needs) returns returns-2)

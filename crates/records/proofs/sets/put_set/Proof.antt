@@ -27,9 +27,6 @@ s₁ c = first (s₀ (c .before .before .before)) (c .before .before .put-number
 abbrev s₂ : (c : tie.After-slice-known3) → (let k = c .before .before .before .before .before .before .before .before .before .before in Stage (whole k) (k .args .buf .now) [])
 s₂ c = next (s₁ (c .before .before .before .before)) (c .before .before .put-differences .ensures)
 
-count-requires : tie.Need-count-requires
-count-requires c κs = tt
-
 put-number-requires : tie.Need-put-number-requires
 put-number-requires c κs = room₀ (s₀ c)
 
@@ -38,9 +35,6 @@ sub-put-differences c = in-range (s₁ c .run)
 
 part-put-differences-start : tie.Need-part-put-differences-start
 part-put-differences-start c = in-range (s₁ c .run)
-
-part-put-differences-end : tie.Need-part-put-differences-end
-part-put-differences-end c = omega arith
 
 put-differences-requires : tie.Need-put-differences-requires
 put-differences-requires c κs = room (s₁ (c .before) .run)
@@ -58,11 +52,11 @@ pub put-set-spec : {M : Type 1} → statement M
 put-set-spec =
     tie.close
     (tie.spec
-    count-requires
+    (λ c κs. tt)
     put-number-requires
     sub-put-differences
     part-put-differences-start
-    part-put-differences-end
+    (λ c. omega arith)
     put-differences-requires
     add-result
     same-length

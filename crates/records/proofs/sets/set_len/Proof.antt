@@ -9,18 +9,6 @@ use Rattle.records.proofs.Differences.{set-length}
 use Rattle.records.proofs.sets.set_len.Statement.{statement}
 use Rattle.records.proofs.sets.set_len.Tie as tie
 
-count-requires : tie.Need-count-requires
-count-requires c κs = tt
-
-number-len-requires : tie.Need-number-len-requires
-number-len-requires c κs = tt
-
-differences-len-requires : tie.Need-differences-len-requires
-differences-len-requires c κs = tt
-
-add-result : tie.Need-add-result
-add-result c = omega arith
-
 returns : tie.Need-returns
 returns c =
     let l = slotsOf (c .before .before .before .args .set .words) in
@@ -30,4 +18,4 @@ returns c =
 pub set-len-spec : {M : Type 1} → statement M
 set-len-spec =
     tie.close
-    (tie.spec count-requires number-len-requires differences-len-requires add-result returns)
+    (tie.spec (λ c κs. tt) (λ c κs. tt) (λ c κs. tt) (λ c. omega arith) returns)

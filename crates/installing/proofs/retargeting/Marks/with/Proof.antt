@@ -13,13 +13,13 @@ element-write-marks c = search needs
 
 returns : tie.Need-returns
 returns c =
-    λ q h.
+    λ p h.
     let a = c .before .args in
     let n : length (a .self .at) ≡ maxMembers = search needs in
-    mark-set (a .self .at) (a .p) q (omega arith)
+    mark-set (a .self .at) (a .entry) p (omega arith)
 
 returns-2 : tie.Need-returns-2
-returns-2 c = λ q h. let a = c .before .args in mark-none (a .self .at) (a .p) q (λ e. omega arith)
+returns-2 c = λ p h. let a = c .before .args in mark-none (a .self .at) (a .entry) p (λ e. omega arith)
 
 pub with-spec : {M : Type 1} → statement M
 with-spec =

@@ -1,0 +1,10 @@
+pub mod Running
+pub mod Rows
+pub mod WorkedExample
+pub mod Answers
+pub mod Joins
+pub mod Heartbeats
+pub mod Sweeps
+pub mod Topics
+pub mod Installs
+pub mod Limits

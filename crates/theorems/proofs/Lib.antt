@@ -1,0 +1,15 @@
+pub mod ReadBack
+pub mod SingleHolder
+pub mod Moves
+pub mod Members
+pub mod InForce
+pub mod Reachable
+pub mod Stages
+pub mod ThreeRounds
+pub mod Refusing
+pub mod Holding
+pub mod Removing
+pub mod Readable
+pub mod Bounds
+pub mod Sizes
+pub mod All
