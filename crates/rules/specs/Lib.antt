@@ -11,4 +11,5 @@ pub mod Reader
 pub mod Ledger
 pub mod Course
 pub mod Rounds
+pub mod Accepted
 pub mod Theorems

@@ -1,14 +1,12 @@
 -- What the table of refusals keeps within limits, in every group reached from a fresh one: G is at most the largest epoch, and each member's timeout and
--- subscription are in range. Each call keeps this; with the invariant of Reachable it gives the order of the epochs and the lengths of the two tables.
-use Prim.Native.Nat.{ℕ, zero, suc, _≤_, _<_}
+-- subscription are in range. With the invariant of Reachable this gives the order of the epochs.
+use Prim.Native.Nat.{ℕ, suc, _≤_, _<_}
 use native.Mathlib.Omega.{arith}
-use mathlib.Core.Path.{_≡_, refl, sym, subst}
-use mathlib.Core.Logic.{_⊎_, inl, inr}
+use mathlib.Core.Path.{_≡_, refl}
 use mathlib.Core.Bool.{Bool, true, false, _&&_, _||_, true≢false}
-use mathlib.Core.List.{List, [], _∷_, foldl}
 use mathlib.Core.Option.{Option, none, some}
 use lib.IntN.{ℤ, pos, negsuc}
-use lib.ListN.{length, getD, set, replicate}
+use lib.ListN.{length, getD}
 use lib.Dec.{eqb, ltb}
 use borrow.Author.Tests.{ltb-true, ltb-false, leb-false}
 use Rattle.rules.specs.Basics.{default, empty, if_then_else_}
@@ -16,14 +14,17 @@ use Rattle.rules.specs.Constants.{lastEpoch, maxMembers, maxTimeout, slotCount,
 use Rattle.rules.specs.Group.{Group, Member, fresh, memberAt, nobody, placeOf, raised}
 use Rattle.rules.specs.Event.{Event, Request, heartbeat, install, sweep, topic}
 use Rattle.rules.specs.Refusals.{Kind, atEnd, badTimeout, heartbeatTable, invalid, joins, kindOf, lacking, leaves, malformed, newSubscription, newTimeout, ordinary, resubscribes, table, timeoutOr, topicRaises, zeroId, senderOf}
-use Rattle.rules.specs.Effects.{changed, effect, groupEpochAfter, heartbeatEffect, installEffect, joinAt, joinEffect, joinPlace, joiner, leaveAt, leaveEffect, memberAfter, overduePlaces, remove, sweepEffect, sweepEpoch, sweepOf, topicEffect, topicEpoch, withTarget, withTopic, ordinaryAt}
-use Rattle.rules.specs.Step.{carryOut, step, verdict}
-use Rattle.rules.specs.Theorems.{EpochsOrdered, Reached}
-use Rattle.rules.specs.declared.Refusal.{Refusal}
+use Rattle.rules.specs.Effects.{changed, effect, groupEpochAfter, heartbeatEffect, installEffect, joinAt, joinEffect, joiner, leaveAt, leaveEffect, memberAfter, overduePlaces, sweepEffect, sweepEpoch, sweepOf, topicEffect, topicEpoch, withTarget, withTopic, ordinaryAt}
+use Rattle.rules.specs.Step.{carryOut}
+use Rattle.rules.specs.Course.{Subscribing}
+use Rattle.rules.specs.Theorems.{EpochsNeverFall, EpochsOrdered, EpochsRise, Reached}
 use Rattle.rules.proofs.Lists.{or-false}
-use Rattle.theorems.proofs.SingleHolder.{AllFalse, none-first}
+use Rattle.theorems.proofs.Cases.{if-cases}
+use Rattle.theorems.proofs.Picks.{Each}
+use Rattle.theorems.proofs.Accepting.{AllFalse, step-cases}
+use Rattle.theorems.proofs.Reaching.{members-have, reached-has}
+use Rattle.theorems.proofs.Epochs.{effect-rises}
 use Rattle.theorems.proofs.Readable.{reached-inv}
-use Rattle.rules.specs.Course.{AllTyped, Call, Course, Subscribing, Typed, courseAfter, begun, next, stepped}
 
 -- ---- one member, and all of them
 
@@ -31,48 +32,11 @@ pub record InRange (m : Member) : Type 0 where
   pub timeout : m .timeout ≤ maxTimeout
   pub subscription : m .subscription < subscriptionCount
 
-abbrev pub EachInRange : List (Option Member) → Type 0
-EachInRange ms = (p : ℕ) (m : Member) → getD ms p none ≡ some m → InRange m
-
-pub record Bounded (g : Group) : Type 0 where
-  pub last : g .epoch ≤ lastEpoch
-  pub members : EachInRange (g .members)
-
--- what stands in a table after one entry was set: that entry, or what stood there
-set-cases : (ms : List (Option Member)) (p : ℕ) (x : Option Member) (q : ℕ) (m : Member) → getD (set ms p x) q none ≡ some m → (x ≡ some m) ⊎ (getD ms q none ≡ some m)
-set-cases [] p x q m e = inr e
-set-cases (y ∷ ms) zero x zero m e = inl e
-set-cases (y ∷ ms) zero x (suc q) m e = inr e
-set-cases (y ∷ ms) (suc p) x zero m e = inr e
-set-cases (y ∷ ms) (suc p) x (suc q) m e = set-cases ms p x q m e
-
-each-none : (ms : List (Option Member)) (p : ℕ) → EachInRange ms → EachInRange (set ms p none)
-each-none ms p each q m e = pick (set-cases ms p none q m e)
-  where
-    pick : (none ≡ some m) ⊎ (getD ms q none ≡ some m) → InRange m
-    pick (inl f) = absurd (let z : _≡_ {A = ℕ} 0 1 = cc in omega arith)
-    pick (inr f) = each q m f
-
-each-put : (ms : List (Option Member)) (p : ℕ) (n : Member) → InRange n → EachInRange ms → EachInRange (set ms p (some n))
-each-put ms p n r each q m e = pick (set-cases ms p (some n) q m e)
-  where
-    inj : some n ≡ some m → n ≡ m
-    inj f = cc
-
-    pick : (some n ≡ some m) ⊎ (getD ms q none ≡ some m) → InRange m
-    pick (inl f) = subst InRange (inj f) r
-    pick (inr f) = each q m f
-
-each-absent : (n : ℕ) → EachInRange (replicate n none)
-each-absent zero p m e = absurd (let z : _≡_ {A = ℕ} 0 1 = cc in omega arith)
-each-absent (suc n) zero m e = absurd (let z : _≡_ {A = ℕ} 0 1 = cc in omega arith)
-each-absent (suc n) (suc p) m e = each-absent n p m e
-
 nobody-in-range : InRange nobody
 unfolding nobody
 nobody-in-range = record { timeout = omega arith; subscription = omega arith }
 
-member-in-range : (g : Group) → EachInRange (g .members) → (p : ℕ) → InRange (memberAt g p)
+member-in-range : (g : Group) → Each InRange (g .members) → (p : ℕ) → InRange (memberAt g p)
 unfolding memberAt
 member-in-range g each p = pick (getD (g .members) p none) refl
   where
@@ -103,7 +67,7 @@ subscription-in-range : (b : Request) (m : Member) → Subscribing (b .subscript
 unfolding newSubscription
 subscription-in-range b m s r = subscription-or (b .subscription) (m .subscription) s (r .subscription)
 
-pub member-after-in-range : (g : Group) (b : Request) → malformed b ≡ false → Subscribing (b .subscription) → EachInRange (g .members) → InRange (memberAfter g (senderOf g b) b)
+pub member-after-in-range : (g : Group) (b : Request) → malformed b ≡ false → Subscribing (b .subscription) → Each InRange (g .members) → InRange (memberAfter g (senderOf g b) b)
 unfolding memberAfter
 member-after-in-range g b e s each =
     let m = memberAt g (placeOf g (b .id)) in
@@ -121,11 +85,7 @@ joiner-in-range g b e s = record {
 
 raised-last : (e : ℕ) → e ≤ lastEpoch → raised e ≤ lastEpoch
 unfolding raised
-raised-last e h = pick (ltb e lastEpoch) refl
-  where
-    pick : (c : Bool) → ltb e lastEpoch ≡ c → (if c then suc e else e) ≤ lastEpoch
-    pick true q = ltb-true e lastEpoch q
-    pick false q = h
+raised-last e h = if-cases (λ n. n ≤ lastEpoch) (ltb e lastEpoch) (ltb-true e lastEpoch) (λ _. h)
 
 below-end : (g : Group) → atEnd g ≡ false → g .epoch < lastEpoch
 unfolding atEnd
@@ -136,64 +96,29 @@ raise-last : (g : Group) (c : Bool) → g .epoch ≤ lastEpoch → c && atEnd g 
 raise-last g true h e = below-end g e
 raise-last g false h e = h
 
--- ---- an accepted event
+pub heartbeat-last : (g : Group) → g .epoch ≤ lastEpoch → (b : Request) (k : Kind) → AllFalse (heartbeatTable g b k) → heartbeatEffect g b k .group .epoch ≤ lastEpoch
+unfolding heartbeatEffect joinEffect joinAt leaveEffect leaveAt ordinaryAt groupEpochAfter heartbeatTable changed
+heartbeat-last g h b joins rows = below-end g (rows .1 .1 .0)
+heartbeat-last g h b leaves rows = raised-last (g .epoch) h
+heartbeat-last g h b invalid rows = absurd (true≢false (rows .0))
+heartbeat-last g h b (ordinary e) rows = raise-last g (resubscribes (senderOf g b .member) b) h (rows .1 .1 .1 .1 .0)
 
-module _ (g : Group) (v : Bounded g) where
-  pub heartbeat-bounded : (b : Request) → Subscribing (b .subscription) → (k : Kind) → AllFalse (heartbeatTable g b k) → Bounded (heartbeatEffect g b k .group)
-  unfolding heartbeatEffect joinEffect joinAt leaveEffect leaveAt ordinaryAt groupEpochAfter heartbeatTable changed remove
-  heartbeat-bounded b s joins rows = record {
-    last = below-end g (rows .1 .1 .0);
-    members = each-put (g .members) (joinPlace g b) (joiner g b) (joiner-in-range g b (rows .0) s) (v .members);
-  }
-  heartbeat-bounded b s leaves rows = record { last = raised-last (g .epoch) (v .last); members = each-none (g .members) (placeOf g (b .id)) (v .members) }
-  heartbeat-bounded b s invalid rows = absurd (true≢false (rows .0))
-  heartbeat-bounded b s (ordinary e) rows = record {
-    last = raise-last g (resubscribes (senderOf g b .member) b) (v .last) (rows .1 .1 .1 .1 .0);
-    members = each-put (g .members) (placeOf g (b .id)) (memberAfter g (senderOf g b) b) (member-after-in-range g b (rows .0) s (v .members)) (v .members);
-  }
-
-each-removed : (ps : List ℕ) (g : Group) → EachInRange (g .members) → EachInRange (foldl remove g ps .members)
-unfolding remove changed
-each-removed [] g each = each
-each-removed (p ∷ ps) g each = each-removed ps (remove g p) (each-none (g .members) p each)
-
-sweep-last : (g : Group) (c : Bool) → g .epoch ≤ lastEpoch → (if c then g .epoch else raised (g .epoch)) ≤ lastEpoch
-sweep-last g true h = h
-sweep-last g false h = raised-last (g .epoch) h
-
-pub accepted-bounded : (g : Group) (e : Event) → Typed e → Bounded g → AllFalse (table g e) → Bounded (effect g e .group)
+pub accepted-last : (g : Group) (e : Event) → g .epoch ≤ lastEpoch → AllFalse (table g e) → effect g e .group .epoch ≤ lastEpoch
 unfolding effect table sweepEffect sweepOf sweepEpoch changed topicEffect topicEpoch withTopic installEffect withTarget
-accepted-bounded g (heartbeat b) typed v rows = heartbeat-bounded g v b (typed .1) (kindOf (b .epoch)) (rows .1)
-accepted-bounded g (sweep tick) typed v rows = record {
-  last = sweep-last g (empty (overduePlaces g tick)) (v .last);
-  members = each-removed (overduePlaces g tick) g (v .members);
-}
-accepted-bounded g (topic t id n) typed v rows = record { last = raise-last g (topicRaises g t n) (v .last) (rows .1 .0); members = v .members }
-accepted-bounded g (install e entries) typed v rows = record { last = v .last; members = v .members }
-
--- ---- every call, and every list of them
-
-turn-bounded : (g : Group) (t : Call) → Typed (t .event) → Bounded g → Bounded (stepped g t .group)
-unfolding stepped step carryOut verdict
-turn-bounded g t ok v = pick (verdict g (t .event) (t .buffer) (t .list)) refl
-  where
-    pick : (r : Option Refusal) → verdict g (t .event) (t .buffer) (t .list) ≡ r → Bounded (carryOut r g (effect g (t .event)) (t .buffer) (t .list) .group)
-    pick (some r) e = v
-    pick none e = accepted-bounded g (t .event) ok v (none-first (table g (t .event)) _ e)
-
-after-bounded : (ts : List Call) (c : Course) → AllTyped ts → Bounded (c .group) → Bounded (courseAfter c ts .group)
-unfolding courseAfter next
-after-bounded [] c ok v = v
-after-bounded (t ∷ ts) c ok v = after-bounded ts (next c t) (ok .1) (turn-bounded (c .group) t (ok .0) v)
-
-begun-bounded : (tick : ℕ) → Bounded (begun (fresh tick) .group)
-unfolding begun fresh
-begun-bounded tick = record { last = omega arith; members = each-absent maxMembers }
+accepted-last g (heartbeat b) h rows = heartbeat-last g h b (kindOf (b .epoch)) (rows .1)
+accepted-last g (sweep tick) h rows = if-cases (λ n. n ≤ lastEpoch) (empty (overduePlaces g tick)) (λ _. h) (λ _. raised-last (g .epoch) h)
+accepted-last g (topic t id n) h rows = raise-last g (topicRaises g t n) h (rows .1 .0)
+accepted-last g (install e entries) h rows = h
 
 -- ---- a reached group
 
-pub reached-bounded : (g : Group) → Reached g → Bounded g
-reached-bounded g r = subst Bounded (sym (r .is)) (after-bounded (r .calls) (begun (fresh (r .tick))) (r .typed) (begun-bounded (r .tick)))
+pub reached-in-range : (g : Group) → Reached g → Each InRange (g .members)
+unfolding heartbeatTable
+reached-in-range = members-have InRange (λ g b ok rows. joiner-in-range g b (rows .0) (ok .1)) (λ g b e ok rows each. member-after-in-range g b (rows .0) (ok .1) each)
+
+pub reached-last : (g : Group) → Reached g → g .epoch ≤ lastEpoch
+unfolding fresh
+reached-last = reached-has (λ g. g .epoch ≤ lastEpoch) (λ tick. omega arith) (λ g e ok h rows. accepted-last g e h rows)
 
 pub reached-members : (g : Group) → Reached g → length (g .members) ≡ maxMembers
 reached-members g r = reached-inv g r .1 .base .sized
@@ -206,6 +131,12 @@ epochs-ordered g r =
     let v = reached-inv g r .1 .base in
     record {
       target = v .order;
-      last = reached-bounded g r .last;
+      last = reached-last g r;
       member = λ p m e. (v .ok p m e .pos, v .ok p m e .low);
     }
+
+pub epochs-never-fall : EpochsNeverFall
+unfolding carryOut
+epochs-never-fall g r e buffer list =
+    step-cases g e buffer list (λ s. EpochsRise g (s .group))
+    (λ _. record { epoch = omega arith; byOne = omega arith; target = omega arith }) (λ _ _. effect-rises g (epochs-ordered g r .target) e)

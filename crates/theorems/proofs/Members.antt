@@ -1,102 +1,46 @@
--- What holds between the history and the group, after every list of events: the members' last answers, subscriptions and epochs; every holder is a member.
-use Prim.Native.Nat.{ℕ, zero, suc, _≤_, _<_}
-use native.Mathlib.Nat.{le-of-suc-le-suc, not-suc-le-zero}
+-- `Base`: the history has each member's last answer and subscription, its epoch is at most G, and every holder is a member. Removing or setting a member,
+-- a join and an install keep it.
+use Prim.Native.Nat.{ℕ, suc, _≤_, _<_}
 use native.Mathlib.Omega.{arith}
 use mathlib.Core.Path.{_≡_, refl, sym, ap, _∙_, subst}
-use mathlib.Core.Logic.{_≢_, _⊎_, inl, inr}
-use mathlib.Core.Bool.{Bool, true, false, not, _&&_}
-use mathlib.Core.List.{List, [], _∷_, map}
+use mathlib.Core.Logic.{_≢_, _⊎_, ⊎-elim, inl, inr}
+use mathlib.Core.List.{List, [], map}
 use mathlib.Core.Option.{Option, none, some}
 use lib.ListN.{length, getD, set, length-map, length-set}
 use lib.Seq.{getD-set-same, getD-set-other}
-use lib.Dec.{eqb}
-use borrow.Author.Tests.{eq-eqb, ne-eqb}
-use Rattle.rules.specs.Basics.{if_then_else_, indices, same}
+use Rattle.rules.specs.Basics.{if_then_else_, same}
 use Rattle.rules.specs.Constants.{maxMembers, noPlace, slotCount}
 use Rattle.rules.specs.Group.{Member, SlotState, assigned, freeSlot, setA}
 use Rattle.rules.specs.Effects.{retargeted, vacated}
-use Rattle.rules.proofs.Lists.{same-eq, same-refl}
-use Rattle.theorems.proofs.SingleHolder.{eq-cases, holder-retargeted, holderIn, id-none, id-other, id-same, idIn, idOf, member-placed, no-some, none-not, some-inj}
-use Rattle.theorems.proofs.Moves.{Moves, indices-none, keeps-A, moves-map, moves-vacated, slot-map-after}
 use Rattle.rules.specs.Course.{Told}
+use Rattle.rules.proofs.Lists.{same-eq, same-refl}
+use Rattle.theorems.proofs.Cases.{eq-cases, if-not, none-not, some-inj}
+use Rattle.theorems.proofs.Picks.{indices-map-none, none-set}
+use Rattle.theorems.proofs.Slots.{not-assigned, vacated-holder}
+use Rattle.theorems.proofs.Moves.{A-retargeted, Moves, at-vacated, holderIn, keeps-A, length-retargeted, moves-vacated, same-retargeted}
+use Rattle.theorems.proofs.SingleHolder.{id-other, id-same, idIn, member-id, member-placed}
 
 -- ---- one ID's entry of a table by ID
 
-pub at-own : {A : Type 0} (id i : List ℕ) (t x : A) → id ≡ i → (if same id i then t else x) ≡ t
+at-own : {A : Type 0} (id i : List ℕ) (t x : A) → id ≡ i → (if same id i then t else x) ≡ t
 at-own id i t x e = rw (ap (same id) (sym e) ∙ same-refl id) refl
 
-pub at-other : {A : Type 0} (id i : List ℕ) (t x : A) → id ≢ i → (if same id i then t else x) ≡ x
-at-other {A} id i t x h = pick (same id i) refl
-  where
-    pick : (c : Bool) → same id i ≡ c → _≡_ {A = A} (if c then t else x) x
-    pick true e = absurd (h (same-eq id i e))
-    pick false e = refl
+at-other : {A : Type 0} (id i : List ℕ) (t x : A) → id ≢ i → (if same id i then t else x) ≡ x
+at-other id i t x h = if-not (same id i) t x (λ e. h (same-eq id i e))
 
 -- ---- members
-
-pub member-id : (ms : List (Option Member)) (p : ℕ) (m : Member) → getD ms p none ≡ some m → idIn ms p ≡ some (m .id)
-unfolding idIn
-member-id ms p m e = ap idOf e
-
-pub member-of : (ms : List (Option Member)) (p : ℕ) (i : List ℕ) → idIn ms p ≡ some i → (m : Member) × (getD ms p none ≡ some m) × (m .id ≡ i)
-unfolding idIn
-member-of ms p i e = pick (getD ms p none) refl e
-  where
-    pick : (o : Option Member) → getD ms p none ≡ o → idOf o ≡ some i → (m : Member) × (getD ms p none ≡ some m) × (m .id ≡ i)
-    pick none q f = absurd (no-some i f)
-    pick (some m) q f = (m, q, some-inj f)
 
 abbrev pub Occupied : List (Option Member) → ℕ → Type 0
 Occupied ms p = (i : List ℕ) × (idIn ms p ≡ some i)
 
 -- after p is vacated it holds nothing
-pub vacated-away : (p : ℕ) (ss : List SlotState) (s : ℕ) → holderIn (map (vacated p) ss) s ≢ noPlace → holderIn (map (vacated p) ss) s ≢ p
-unfolding holderIn vacated
-vacated-away p ss s n e =
-    let x = getD ss s freeSlot in
-    let f : holderIn (map (vacated p) ss) s ≡ vacated p x .holder = ap (λ (z : SlotState). z .holder) (slot-map-after (vacated p) ss s n) in
-    eq-cases (x .holder) p (λ q. n (f ∙ yes′ x q)) (λ q. q (sym (no′ x q) ∙ sym f ∙ e))
-  where
-    yes′ : (x : SlotState) → x .holder ≡ p → vacated p x .holder ≡ noPlace
-    yes′ x q = rw (eq-eqb (x .holder) p q) refl
-
-    no′ : (x : SlotState) → x .holder ≢ p → vacated p x .holder ≡ x .holder
-    no′ x q = rw (ne-eqb (x .holder) p q) refl
-
-not-its : (p : ℕ) (x : SlotState) → p ≢ noPlace → assigned p (vacated p x) ≡ false
-unfolding assigned vacated
-not-its p x h = pick (eqb (x .holder) p) refl
-  where
-    pick : (c : Bool) → eqb (x .holder) p ≡ c → eqb (if c then noPlace else x .holder) p && not (if c then false else x .waiting) ≡ false
-    pick true e = rw (ne-eqb noPlace p (λ q. h (sym q))) refl
-    pick false e = rw e refl
-
-map-lt : (f : SlotState → SlotState) (ss : List SlotState) (i : ℕ) → i < length ss → getD (map f ss) i freeSlot ≡ f (getD ss i freeSlot)
-map-lt f [] i h = absurd (not-suc-le-zero h)
-map-lt f (x ∷ xs) zero h = refl
-map-lt f (x ∷ xs) (suc i) h = map-lt f xs i (le-of-suc-le-suc h)
+vacated-away : (p : ℕ) (ss : List SlotState) (s : ℕ) → holderIn (map (vacated p) ss) s ≢ noPlace → holderIn (map (vacated p) ss) s ≢ p
+unfolding holderIn
+vacated-away p ss s n e = n (e ∙ vacated-holder p (getD ss s freeSlot) (sym (ap (λ (x : SlotState). x .holder) (at-vacated p ss s)) ∙ e))
 
 pub none-assigned : (p : ℕ) (ss : List SlotState) → p ≢ noPlace → setA p (map (vacated p) ss) ≡ []
 unfolding setA
-none-assigned p ss h =
-    indices-none (assigned p) freeSlot (map (vacated p) ss) 0
-    (λ i l. ap (assigned p) (map-lt (vacated p) ss i (subst (λ (n : ℕ). i < n) (length-map ss (vacated p)) l)) ∙ not-its p (getD ss i freeSlot) h)
-
-pub length-retargeted : (ss : List SlotState) (es : List ℕ) → length (retargeted ss es) ≡ length ss
-unfolding retargeted
-length-retargeted [] es = refl
-length-retargeted (s ∷ ss) [] = refl
-length-retargeted (s ∷ ss) (e ∷ es) = ap suc (length-retargeted ss es)
-
-indices-retargeted : (p n : ℕ) (ss : List SlotState) (es : List ℕ) → indices (assigned p) n (retargeted ss es) ≡ indices (assigned p) n ss
-unfolding retargeted assigned
-indices-retargeted p n [] es = refl
-indices-retargeted p n (s ∷ ss) [] = refl
-indices-retargeted p n (s ∷ ss) (e ∷ es) = rw (indices-retargeted p (suc n) ss es) refl
-
-A-retargeted : (p : ℕ) (ss : List SlotState) (es : List ℕ) → setA p (retargeted ss es) ≡ setA p ss
-unfolding setA
-A-retargeted p ss es = indices-retargeted p 0 ss es
+none-assigned p ss h = indices-map-none (assigned p) (vacated p) (λ x. not-assigned p (vacated p x) (λ e. h (vacated-holder p x e))) ss 0
 
 pub record MemberOk (last : List ℕ → Told) (topics : List ℕ → ℕ) (G : ℕ) (ss : List SlotState) (p : ℕ) (m : Member) : Type 0 where
   pub told : last (m .id) ≡ record { epoch = m .epoch; slots = setA p ss }
@@ -111,8 +55,8 @@ pub record Base (last : List ℕ → Told) (topics : List ℕ → ℕ) (G T : �
   pub held : (s : ℕ) → (holderIn ss s ≡ noPlace) ⊎ Occupied ms (holderIn ss s)
   pub order : T ≤ G
 
-pub base-raise : (last : List ℕ → Told) (topics : List ℕ → ℕ) (G H T : ℕ) (ms : List (Option Member)) (ss : List SlotState) → G ≤ H → Base last topics G T ms ss → Base last topics H T ms ss
-base-raise last topics G H T ms ss h b = record {
+pub base-raise : {last : List ℕ → Told} {topics : List ℕ → ℕ} {G H T : ℕ} {ms : List (Option Member)} {ss : List SlotState} → G ≤ H → Base last topics G T ms ss → Base last topics H T ms ss
+base-raise h b = record {
   sized = b .sized;
   wide = b .wide;
   ok = λ p m e. let k = b .ok p m e in record { told = k .told; subs = k .subs; pos = k .pos; low = omega (arith, k .low) };
@@ -120,16 +64,16 @@ base-raise last topics G H T ms ss h b = record {
   order = omega (arith, b .order);
 }
 
-module _ (last : List ℕ → Told) (topics : List ℕ → ℕ) (G T : ℕ) (ms : List (Option Member)) (ss : List SlotState) (b : Base last topics G T ms ss) where
+module _ {last : List ℕ → Told} {topics : List ℕ → ℕ} {G T : ℕ} {ms : List (Option Member)} {ss : List SlotState} (b : Base last topics G T ms ss) where
   -- a member elsewhere is as before where only p moves slots and p's record is set
-  pub other-ok : (p : ℕ) (x : Option Member) (tt′ : List SlotState) → Moves p ss tt′ → (q : ℕ) (m : Member) → p ≢ q → getD (set ms p x) q none ≡ some m
+  other-ok : (p : ℕ) (x : Option Member) (tt′ : List SlotState) → Moves p ss tt′ → (q : ℕ) (m : Member) → p ≢ q → getD (set ms p x) q none ≡ some m
       → (getD ms q none ≡ some m) × MemberOk last topics G tt′ q m
   other-ok p x tt′ mv q m h e =
       let f : getD ms q none ≡ some m = sym (getD-set-other ms p q x none (λ k. h (sym k))) ∙ e in
       let k = b .ok q m f in (
         f,
         record {
-          told = k .told ∙ ap (λ (a : List ℕ). record { epoch = m .epoch; slots = a }) (sym (keeps-A p q ss tt′ mv (λ j. h (sym j)) (member-placed ms q (m .id) (b .sized) (member-id ms q m f))));
+          told = k .told ∙ ap (λ (a : List ℕ). record { epoch = m .epoch; slots = a }) (sym (keeps-A q mv (λ j. h (sym j)) (member-placed ms q (m .id) (b .sized) (member-id ms q m f))));
           subs = k .subs;
           pos = k .pos;
           low = k .low;
@@ -137,33 +81,25 @@ module _ (last : List ℕ → Told) (topics : List ℕ → ℕ) (G T : ℕ) (ms 
       )
 
   -- a slot that a third place holds afterwards was held by it, and it is a member
-  pub third-held : (p : ℕ) (tt′ : List SlotState) → Moves p ss tt′ → (s : ℕ) → holderIn tt′ s ≢ p → holderIn tt′ s ≢ noPlace → Occupied ms (holderIn tt′ s)
+  third-held : (p : ℕ) (tt′ : List SlotState) → Moves p ss tt′ → (s : ℕ) → holderIn tt′ s ≢ p → holderIn tt′ s ≢ noPlace → Occupied ms (holderIn tt′ s)
   unfolding holderIn
   third-held p tt′ mv s h k =
-      let e : holderIn tt′ s ≡ holderIn ss s = mv .gain s h k .holder in
-      pick (b .held s) e
-    where
-      pick : (holderIn ss s ≡ noPlace) ⊎ Occupied ms (holderIn ss s) → holderIn tt′ s ≡ holderIn ss s → Occupied ms (holderIn tt′ s)
-      pick (inl f) e = absurd (k (e ∙ f))
-      pick (inr o) e = (o .0, ap (idIn ms) e ∙ o .1)
+      let e : holderIn tt′ s ≡ holderIn ss s = mv .at s .gain h k .holder in
+      ⊎-elim (λ f. absurd (k (e ∙ f))) (λ (o : Occupied ms (holderIn ss s)). (o .0, ap (idIn ms) e ∙ o .1)) (b .held s)
 
   pub base-remove : (p : ℕ) → Base last topics G T (set ms p none) (map (vacated p) ss)
   base-remove p = record {
     sized = length-set ms p none ∙ b .sized;
     wide = length-map ss (vacated p) ∙ b .wide;
     ok = λ q m e. eq-cases p q
-        (λ f. absurd (none-not (ap (idIn (set ms p none)) (sym f) ∙ id-none ms p) (member-id (set ms p none) q m e)))
-        (λ f. other-ok p none (map (vacated p) ss) mv q m f e .1);
-    held = λ s. eq-cases (holderIn (map (vacated p) ss) s) noPlace inl
-        (λ n. inr (let o = third-held p (map (vacated p) ss) mv s (away s n) n in (o .0, id-other ms p (holderIn (map (vacated p) ss) s) none (away s n) ∙ o .1)));
+        (λ f. absurd (none-not (ap (λ (k : ℕ). getD (set ms p none) k none) (sym f) ∙ none-set ms p) e))
+        (λ f. other-ok p none (map (vacated p) ss) (moves-vacated p ss) q m f e .1);
+    held = λ s. eq-cases (holderIn (map (vacated p) ss) s) noPlace inl (λ n.
+        let away = vacated-away p ss s n in
+        let o = third-held p (map (vacated p) ss) (moves-vacated p ss) s away n in
+        inr (o .0, id-other ms p (holderIn (map (vacated p) ss) s) none away ∙ o .1));
     order = b .order;
   }
-    where
-      mv : Moves p ss (map (vacated p) ss)
-      mv = moves-map p (vacated p) (moves-vacated p) ss
-
-      away : (s : ℕ) → holderIn (map (vacated p) ss) s ≢ noPlace → holderIn (map (vacated p) ss) s ≢ p
-      away s n e = vacated-away p ss s n e
 
   -- a member's record is set and only its place moves slots: an ordinary heartbeat
   pub base-put : (p : ℕ) (m : Member) (u H : ℕ) (tt′ : List SlotState) → Moves p ss tt′ → p < length ms → m .subscription ≡ u → G ≤ H → 0 < m .epoch → m .epoch ≤ H
@@ -173,7 +109,7 @@ module _ (last : List ℕ → Told) (topics : List ℕ → ℕ) (G T : ℕ) (ms 
     sized = length-set ms p (some m) ∙ b .sized;
     wide = mv .long ∙ b .wide;
     ok = λ q n e. eq-cases p q
-        (λ f. own q n f (some-inj′ (sym (getD-set-same ms p (some m) none lt) ∙ ap (λ (k : ℕ). getD (set ms p (some m)) k none) f ∙ e)))
+        (λ f. own q n f (some-inj (sym (getD-set-same ms p (some m) none lt) ∙ ap (λ (k : ℕ). getD (set ms p (some m)) k none) f ∙ e)))
         (λ f. foreign q n f (other-ok p (some m) tt′ mv q n f e));
     held = λ s. eq-cases (holderIn tt′ s) noPlace inl
         (λ n. inr (eq-cases (holderIn tt′ s) p
@@ -182,9 +118,6 @@ module _ (last : List ℕ → Told) (topics : List ℕ → ℕ) (G T : ℕ) (ms 
     order = omega (arith, b .order);
   }
     where
-      some-inj′ : {x y : Member} → some x ≡ some y → x ≡ y
-      some-inj′ e = cc
-
       own : (q : ℕ) (n : Member) → p ≡ q → m ≡ n
           → MemberOk (λ i. if same (m .id) i then record { epoch = m .epoch; slots = setA p tt′ } else last i) (λ i. if same (m .id) i then u else topics i) H tt′ q n
       own q n f e = record {
@@ -214,13 +147,14 @@ module _ (last : List ℕ → Told) (topics : List ℕ → ℕ) (G T : ℕ) (ms 
       let bare : setA p (map (vacated p) ss) ≡ [] = none-assigned p ss (omega (arith, b .sized)) in
       subst (λ (t : Told). Base (λ i. if same (m .id) i then t else last i) (λ i. if same (m .id) i then u else topics i) (suc G) T (set ms p (some m)) (map (vacated p) ss))
       (λ j. record { epoch = new j; slots = bare j })
-      (base-put p m u (suc G) (map (vacated p) ss) (moves-map p (vacated p) (moves-vacated p) ss) lt u′ (omega arith) (rw new (omega arith)) (rw new (omega arith)) only)
+      (base-put p m u (suc G) (map (vacated p) ss) (moves-vacated p ss) lt u′ (omega arith) (rw new (omega arith)) (rw new (omega arith)) only)
 
   pub base-install : (es : List ℕ) → Base last topics G G ms (retargeted ss es)
+  unfolding holderIn
   base-install es = record {
     sized = b .sized;
     wide = length-retargeted ss es ∙ b .wide;
     ok = λ p m e. let k = b .ok p m e in record { told = k .told ∙ ap (λ (a : List ℕ). record { epoch = m .epoch; slots = a }) (sym (A-retargeted p ss es)); subs = k .subs; pos = k .pos; low = k .low };
-    held = λ s. rw (holder-retargeted ss es s) (b .held s);
+    held = λ s. rw (same-retargeted ss es s .holder) (b .held s);
     order = omega arith;
   }

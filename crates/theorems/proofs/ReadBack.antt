@@ -1,4 +1,4 @@
--- What was written is read back: the reader inverts the encoder on every record that is `Proper`.
+-- What was written is read back: the reader inverts the encoder on every record that is `Proper`; and so are the records of joins, leaves and sweeps.
 use Prim.Native.Nat.{ℕ, zero, suc, _+_, _-_, _/_, _%_, _≤_, _<_}
 use native.Mathlib.Nat.{suc-ne-zero, suc-inj}
 use native.Mathlib.Omega.{arith}
@@ -10,14 +10,17 @@ use lib.ListN.{length, take, drop, length-append}
 use lib.Seq.{take-append-seam}
 use lib.Dec.{ltb, leb}
 use borrow.Author.Tests.{lt-ltb, le-ltb, ltb-false, ne-eqb, leb-true, le-leb}
-use Rattle.rules.specs.Basics.{all, concatMap, empty, indices, rising, if_then_else_}
+use Rattle.rules.specs.Basics.{all, any, concatMap, empty, indices, rising, if_then_else_}
 use Rattle.rules.specs.Constants.{idLength, slotCount}
-use Rattle.rules.specs.Records.{Record, allBytes, bytesOf, currentGone, currentIs, differences, groupEpoch, groups, memberGone, memberIs, number, setBytes, targetEpoch, targetIs, topicIs}
+use Rattle.rules.specs.Group.{Group, targeted}
+use Rattle.rules.specs.Records.{MemberMetadata, Record, allBytes, bytesOf, currentGone, currentIs, differences, groupEpoch, groups, memberGone, memberIs, number, setBytes, targetEpoch, targetIs, topicIs}
 use Rattle.rules.specs.Refusals.{isSlotSet}
+use Rattle.rules.specs.Effects.{goneRecords, joinRecords, joinedAt, noTarget, onlyIf, removalRecords}
 use Rattle.rules.specs.Step.{overlay}
 use Rattle.rules.specs.Reader.{andMore, andThen, byte, joined, moreGroups, pure, readAll, readBytes, readCurrent, readDifferences, readKind, readMember, readNumber, readPresent, readRecord, readRecords, readSet, readTarget, readTopic, refuse, _>>=_}
 use Rattle.rules.specs.Ledger.{recordsIn}
 use Rattle.rules.proofs.Lists.{and-true}
+use Rattle.theorems.proofs.Cases.{if-cases}
 
 got : {A : Type 0} {a b : A} (rest : List ℕ) → a ≡ b → _≡_ {A = Option (A × List ℕ)} (some (a, rest)) (some (b, rest))
 got rest e = λ i. some (e i, rest)
@@ -40,18 +43,18 @@ unfolding readNumber groups
 groups-read zero n h rest = rw (lt-ltb n 128 (omega arith)) refl
 groups-read (suc f) n h rest = groups-step f n rest (ltb n 128) refl (groups-read f (n / 128) (omega arith) rest)
 
-pub number-read : (n : ℕ) (rest : List ℕ) → readNumber (number n ++ rest) ≡ some (n, rest)
+number-read : (n : ℕ) (rest : List ℕ) → readNumber (number n ++ rest) ≡ some (n, rest)
 unfolding number
 number-read n rest = groups-read n n (omega arith) rest
 
 -- ---- sets
 
 -- each element is at least n and above the one before
-abbrev pub Rising : ℕ → List ℕ → Type 0
+abbrev Rising : ℕ → List ℕ → Type 0
 Rising n [] = Unit {0}
 Rising n (x ∷ xs) = (n ≤ x) × Rising (suc x) xs
 
-pub weaken : (s : List ℕ) (n m : ℕ) → m ≤ n → Rising n s → Rising m s
+weaken : (s : List ℕ) (n m : ℕ) → m ≤ n → Rising n s → Rising m s
 weaken [] n m l h = tt
 weaken (x ∷ xs) n m l h = (omega arith, h .1)
 
@@ -65,19 +68,15 @@ rises (x ∷ xs) n h = rw (le-leb n x (h .0)) (rises xs (suc x) (h .1))
 
 indices-rising : {A : Type 0} (f : A → Bool) (n : ℕ) (l : List A) → Rising n (indices f n l)
 indices-rising f n [] = tt
-indices-rising f n (x ∷ xs) = pick (f x) (indices-rising f (suc n) xs)
-  where
-    pick : (c : Bool) → Rising (suc n) (indices f (suc n) xs) → Rising n (if c then n ∷ indices f (suc n) xs else indices f (suc n) xs)
-    pick true h = (omega arith, h)
-    pick false h = weaken (indices f (suc n) xs) (suc n) n (omega arith) h
+indices-rising f n (x ∷ xs) =
+    let h = indices-rising f (suc n) xs in
+    if-cases (Rising n) (f x) (λ _. (omega arith, h)) (λ _. weaken (indices f (suc n) xs) (suc n) n (omega arith) h)
 
 indices-below : {A : Type 0} (f : A → Bool) (n k : ℕ) (l : List A) → n + length l ≤ k → all (λ s. ltb s k) (indices f n l) ≡ true
 indices-below f n k [] h = refl
-indices-below f n k (x ∷ xs) h = pick (f x) (indices-below f (suc n) k xs (omega arith))
-  where
-    pick : (c : Bool) → all (λ s. ltb s k) (indices f (suc n) xs) ≡ true → all (λ s. ltb s k) (if c then n ∷ indices f (suc n) xs else indices f (suc n) xs) ≡ true
-    pick true e = rw (lt-ltb n k (omega arith)) e
-    pick false e = e
+indices-below f n k (x ∷ xs) h =
+    let e = indices-below f (suc n) k xs (omega arith) in
+    if-cases (λ (l : List ℕ). all (λ s. ltb s k) l ≡ true) (f x) (λ _. rw (lt-ltb n k (omega arith)) e) (λ _. e)
 
 -- a pick over the slots is a set of slots
 pub slot-set : {A : Type 0} (f : A → Bool) (l : List A) → length l ≤ slotCount → isSlotSet (indices f 0 l) ≡ true
@@ -91,7 +90,7 @@ differences-read (x ∷ xs) from h rest =
     let e : from + (x - from) ≡ x = omega arith in
     rw (append-assoc (number (x - from)) (differences x xs) rest, number-read (x - from) (differences x xs ++ rest), e, differences-read xs x (weaken xs (suc x) x (omega arith) (h .1)) rest) refl
 
-pub set-read : (s : List ℕ) → isSlotSet s ≡ true → (rest : List ℕ) → readSet (setBytes s ++ rest) ≡ some (s, rest)
+set-read : (s : List ℕ) → isSlotSet s ≡ true → (rest : List ℕ) → readSet (setBytes s ++ rest) ≡ some (s, rest)
 unfolding readSet setBytes isSlotSet _>>=_ andThen pure
 set-read s h rest =
     let up : Rising 0 s = risen s 0 (and-true (rising 0 s) (all (λ x. ltb x slotCount) s) h .0) in
@@ -119,7 +118,7 @@ zero-read : (rest : List ℕ) → readNumber (0 ∷ rest) ≡ some (0, rest)
 unfolding readNumber
 zero-read rest = refl
 
-pub record-read : (r : Record) → Proper r → (rest : List ℕ) → readRecord (bytesOf r ++ rest) ≡ some (r, rest)
+record-read : (r : Record) → Proper r → (rest : List ℕ) → readRecord (bytesOf r ++ rest) ≡ some (r, rest)
 unfolding readRecord bytesOf byte readKind readTopic readMember readPresent readTarget readCurrent pure _>>=_ andThen
 record-read (groupEpoch n) h rest = rw (number-read n rest) refl
 record-read (topicIs t) h rest = simp (append-assoc, number-read, bytes-read idLength (t .id) h) refl
@@ -167,7 +166,7 @@ enough [] = omega arith
 enough (r ∷ rs) = simp length-append (omega (arith, some-byte r, enough rs))
 
 -- the records that `Proper` allows are read back from their bytes
-pub read-written : (rs : List Record) → AllProper rs → readAll (allBytes rs) ≡ some rs
+read-written : (rs : List Record) → AllProper rs → readAll (allBytes rs) ≡ some rs
 unfolding readAll
 read-written rs p = records-read rs (length (allBytes rs)) (enough rs) p
 
@@ -178,3 +177,35 @@ read-stored rs p buffer = rw (overlaid (allBytes rs) buffer) (read-written rs p)
 pub records-stored : (rs : List Record) → AllProper rs → (buffer : List ℕ) → recordsIn (take (length (allBytes rs)) (overlay (allBytes rs) buffer)) ≡ rs
 unfolding recordsIn
 records-stored rs p buffer = rw (read-stored rs p buffer) refl
+
+-- ---- what events store is proper
+
+pub empty-set : isSlotSet [] ≡ true
+unfolding isSlotSet
+empty-set = refl
+
+pub proper-only : (b : Bool) (r : Record) (rs : List Record) → Proper r → AllProper rs → AllProper (onlyIf b r ++ rs)
+unfolding onlyIf
+proper-only true r rs h k = (h, k)
+proper-only false r rs h k = k
+
+pub proper-append : (a b : List Record) → AllProper a → AllProper b → AllProper (a ++ b)
+proper-append [] b h k = k
+proper-append (r ∷ rs) b h k = (h .0, proper-append rs b (h .1) k)
+
+pub proper-removal : (g : Group) (p : ℕ) → AllProper (removalRecords (g .slots) p)
+unfolding removalRecords goneRecords
+proper-removal g p = (tt, proper-only (any (targeted p) (g .slots)) (noTarget p) (memberGone p ∷ []) empty-set (tt, tt))
+
+pub proper-removals : (g : Group) (ps : List ℕ) → AllProper (concatMap (removalRecords (g .slots)) ps)
+proper-removals g [] = tt
+proper-removals g (p ∷ ps) = proper-append (removalRecords (g .slots) p) (concatMap (removalRecords (g .slots)) ps) (proper-removal g p) (proper-removals g ps)
+
+pub proper-epoch : (c : Bool) (e : ℕ) → AllProper (onlyIf c (groupEpoch e))
+unfolding onlyIf
+proper-epoch true e = (tt, tt)
+proper-epoch false e = tt
+
+pub join-proper : (retargets : Bool) (m : MemberMetadata) (e : ℕ) → length (m .id) ≡ idLength → AllProper (joinRecords retargets m (suc e))
+unfolding joinRecords joinedAt
+join-proper retargets m e long = proper-only retargets (noTarget (m .place)) _ empty-set (long, (tt, ((omega arith, (empty-set, empty-set)), tt)))

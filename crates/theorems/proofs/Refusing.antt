@@ -1,8 +1,9 @@
--- A refusal changes nothing, and 1003 is given exactly where its own row applies and none before it does.
+-- A refusal changes nothing, and 1003 is given exactly where its own row applies and none before it does: no effect's answer is a refusal, and no other row
+-- says 1003.
 use Prim.Native.Nat.{ℕ, _<_}
 use native.Mathlib.Omega.{arith}
 use mathlib.Core.Path.{_≡_, refl, sym, ap, _∙_}
-use mathlib.Core.Logic.{_⊎_, inl, inr}
+use mathlib.Core.Logic.{_⊎_, ⊎-elim, inl, inr}
 use mathlib.Core.Bool.{Bool, true, false, not, _&&_, _||_, false≢true}
 use mathlib.Core.List.{List, [], _∷_, _++_}
 use mathlib.Core.Option.{Option, none, some}
@@ -23,13 +24,14 @@ use Rattle.rules.specs.declared.Refusal.the-variants.{Room}
 use Rattle.rules.specs.declared.Answer.{Answer}
 use Rattle.rules.specs.declared.Answer.the-variants.{Refused}
 use Rattle.rules.proofs.Lists.{and-true, or-true}
+use Rattle.theorems.proofs.Cases.{no-some, some-inj}
 
 -- ---- an effect's answer is no refusal
 
 abbrev pub Accepts : Answer → Type 0
 Accepts a = (r : Refusal) → a ≡ Refused r → ⊥
 
-pub heartbeat-accepts : (g : Group) (b : Request) (k : Kind) → Accepts (heartbeatEffect g b k .answer)
+heartbeat-accepts : (g : Group) (b : Request) (k : Kind) → Accepts (heartbeatEffect g b k .answer)
 unfolding heartbeatEffect joinEffect joinAt leaveEffect leaveAt ordinaryAt
 heartbeat-accepts g b joins r e = let z : _≡_ {A = ℕ} 0 1 = cc in omega arith
 heartbeat-accepts g b leaves r e = let z : _≡_ {A = ℕ} 0 1 = cc in omega arith
@@ -75,34 +77,22 @@ table-rows g (sweep tick) = refl
 table-rows g (topic t id n) = refl
 table-rows g (install x entries) = refl
 
-some-refusal : (r s : Refusal) → some r ≡ some s → r ≡ s
-some-refusal r s e = cc
-
 -- 1003 comes from the row after the others, where none of them applies and its own test does
 room-last : (rows : List Row) (test : Bool) → roomFree rows ≡ true → firstOf (rows ++ (Room when test) ∷ []) ≡ some Room → (firstOf rows ≡ none) × (test ≡ true)
 unfolding firstOf roomFree
 room-last [] true h e = (refl, refl)
 room-last [] false h e = let z : _≡_ {A = ℕ} 0 1 = cc in absurd (omega arith)
-room-last ((r when b) ∷ rows) test h e = pick b e (λ k. room-last rows test (and-true (not (eqb (numberOf r) (numberOf Room))) (roomFree rows) h .1) k)
-  where
-    pick : (b : Bool) → (if b then some r else firstOf (rows ++ (Room when test) ∷ [])) ≡ some Room
-        → (firstOf (rows ++ (Room when test) ∷ []) ≡ some Room → (firstOf rows ≡ none) × (test ≡ true))
-        → ((if b then some r else firstOf rows) ≡ none) × (test ≡ true)
-    pick true q ih =
-        let same′ : eqb (numberOf r) (numberOf Room) ≡ true = eq-eqb (numberOf r) (numberOf Room) (ap numberOf (some-refusal r Room q)) in
-        absurd (false≢true (sym (ap not same′) ∙ and-true (not (eqb (numberOf r) (numberOf Room))) (roomFree rows) h .0))
-    pick false q ih = ih q
+room-last ((r when true) ∷ rows) test h e =
+    let same′ : eqb (numberOf r) (numberOf Room) ≡ true = eq-eqb (numberOf r) (numberOf Room) (ap numberOf (some-inj e)) in
+    absurd (false≢true (sym (ap not same′) ∙ and-true (not (eqb (numberOf r) (numberOf Room))) (roomFree rows) h .0))
+room-last ((r when false) ∷ rows) test h e = room-last rows test (and-true (not (eqb (numberOf r) (numberOf Room))) (roomFree rows) h .1) e
 
 -- where no row applies, the row after them decides
 last-row : (rows : List Row) (r : Refusal) (test : Bool) → firstOf rows ≡ none → firstOf (rows ++ (r when test) ∷ []) ≡ (if test then some r else none)
 unfolding firstOf
 last-row [] r test h = refl
-last-row ((s when b) ∷ rows) r test h = pick b h (λ k. last-row rows r test k)
-  where
-    pick : (b : Bool) → (if b then some s else firstOf rows) ≡ none → (firstOf rows ≡ none → firstOf (rows ++ (r when test) ∷ []) ≡ (if test then some r else none))
-        → (if b then some s else firstOf (rows ++ (r when test) ∷ [])) ≡ (if test then some r else none)
-    pick true q ih = let z : _≡_ {A = ℕ} 0 1 = cc in absurd (omega arith)
-    pick false q ih = ih q
+last-row ((s when true) ∷ rows) r test h = absurd (no-some s (sym h))
+last-row ((s when false) ∷ rows) r test h = last-row rows r test h
 
 or-cases : (a b : Bool) → a || b ≡ true → (a ≡ true) ⊎ (b ≡ true)
 or-cases true b e = inl refl
@@ -118,12 +108,7 @@ unfolding step verdict tooLittleRoom
 room-only-then g e buffer list h =
     let v = said-room g e buffer list (verdict g e buffer list) h in
     let k = room-last (table g e) (tooLittleRoom (effect g e) buffer list) (table-rows g e) v in
-    (k .0, pick (or-cases (ltb (length buffer) (length (allBytes (effect g e .records)))) (ltb (length list) (length (effect g e .told))) (k .1)))
-  where
-    pick : (ltb (length buffer) (length (allBytes (effect g e .records))) ≡ true) ⊎ (ltb (length list) (length (effect g e .told)) ≡ true)
-        → (length buffer < length (allBytes (effect g e .records))) ⊎ (length list < length (effect g e .told))
-    pick (inl x) = inl (ltb-true _ _ x)
-    pick (inr x) = inr (ltb-true _ _ x)
+    (k .0, ⊎-elim (λ x. inl (ltb-true _ _ x)) (λ x. inr (ltb-true _ _ x)) (or-cases (ltb (length buffer) (length (allBytes (effect g e .records)))) (ltb (length list) (length (effect g e .told))) (k .1)))
 
 pub room-always-then : RoomAlwaysThen
 unfolding step verdict tooLittleRoom carryOut

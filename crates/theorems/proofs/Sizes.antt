@@ -1,33 +1,35 @@
 -- No event of a reached group stores more than `batchLimit` bytes, nor tells more than `slotCount` slots. A number takes a byte for each seven bits, so that
 -- a place takes one, a slot or the size of a set two, an epoch five. A slot is in A or in P of one place, and in the target of one place: so all the sets
 -- that one event stores have at most `slotCount` elements together.
-use Prim.Native.Nat.{ℕ, zero, suc, _+_, _-_, _*_, _/_, _%_, _≤_, _<_}
+use Prim.Native.Nat.{ℕ, zero, suc, _+_, _-_, _*_, _/_, _≤_, _<_}
 use native.Mathlib.Omega.{arith}
 use mathlib.Core.Path.{_≡_, refl, _∙_}
-use mathlib.Core.Logic.{_⊎_, inl, inr}
-use mathlib.Core.Bool.{Bool, true, false, not, _&&_, _||_, true≢false}
+use mathlib.Core.Logic.{⊎-elim}
+use mathlib.Core.Bool.{Bool, true, false, _&&_, _||_, true≢false}
 use mathlib.Core.List.{List, [], _∷_, _++_}
 use lib.ListN.{length, length-append}
-use lib.Dec.{eqb, ltb, leb}
-use borrow.Author.Tests.{eqb-true, lt-ltb, ltb-true, leb-false, ltb-false, ne-eqb}
-use Rattle.rules.specs.Basics.{all, any, concatMap, if_then_else_, indices, keep, rising, upTo}
+use lib.Dec.{eqb, ltb}
+use borrow.Author.Tests.{eqb-true, lt-ltb, ltb-true, ne-eqb}
+use Rattle.rules.specs.Basics.{all, any, concatMap, indices, keep, rising, upTo}
 use Rattle.rules.specs.Constants.{batchLimit, idLength, lastEpoch, maxMembers, maxPartitions, maxTimeout, slotCount, subscriptionCount, topicCount}
-use Rattle.rules.specs.Group.{Group, SlotState, assigned, isMember, known, memberAt, placeOf, revoking, setA, setM, setP, targeted}
+use Rattle.rules.specs.Group.{Group, SlotState, assigned, isMember, known, placeOf, revoking, setA, setM, setP, targeted}
 use Rattle.rules.specs.Records.{CurrentAssignment, MemberMetadata, Record, TargetAssignment, TopicMetadata, allBytes, bytesOf, currentGone, currentIs, differences, groupEpoch, groups, memberGone, memberIs, number, setBytes, targetEpoch, targetIs, topicIs}
 use Rattle.rules.specs.Event.{Event, Request, heartbeat, install, sweep, topic}
-use Rattle.rules.specs.Refusals.{Kind, heartbeatTable, invalid, isSlotSet, joins, kindOf, leaves, ordinary, senderOf, table, topicBad}
-use Rattle.rules.specs.Effects.{changed, currentAfter, currentOf, effect, epochAfter, goneRecords, heartbeatEffect, installEffect, installRecords, joinAt, joinEffect, joinPlace, joinRecords, joinedAt, joiner, leaveAt, leaveEffect, leaveRecords, memberAfter, metadataOf, moves, noTarget, onlyIf, ordinaryAt, ordinaryRecords, overdue, overduePlaces, removalRecords, retargeted, revokes, slotsAfter, sweepEffect, sweepOf, sweepRecords, targetRecord, topicEffect, topicRecords, updates, waits, withTopic, groupEpochAfter}
-use Rattle.rules.specs.Theorems.{BatchFits, Fits, NeverRoom, Reached}
-use Rattle.rules.proofs.Lists.{and-true, find-lt, not-is-false, or-false}
-use Rattle.theorems.proofs.ReadBack.{slot-set}
-use Rattle.theorems.proofs.SingleHolder.{AllFalse, empty-set, joins-at, known-id}
-use Rattle.theorems.proofs.Moves.{moves-advanced}
-use Rattle.theorems.proofs.Members.{length-retargeted}
-use Rattle.theorems.proofs.Reachable.{epoch-bounds, member-known}
-use Rattle.theorems.proofs.Refusing.{room-only-then}
-use Rattle.theorems.proofs.Readable.{reached-inv, rows-false}
-use Rattle.theorems.proofs.Bounds.{accepted-bounded, epochs-ordered, heartbeat-bounded, joiner-in-range, member-after-in-range, reached-bounded, reached-members, reached-slots}
+use Rattle.rules.specs.Refusals.{Kind, heartbeatTable, invalid, isSlotSet, joins, kindOf, leaves, ordinary, senderOf, table}
+use Rattle.rules.specs.Effects.{changed, currentAfter, currentOf, effect, epochAfter, goneRecords, heartbeatEffect, installEffect, installRecords, joinAt, joinEffect, joinPlace, joinRecords, joinedAt, joiner, leaveAt, leaveEffect, leaveRecords, memberAfter, metadataOf, moves, noTarget, onlyIf, ordinaryAt, ordinaryRecords, overdue, overduePlaces, removalRecords, retargeted, slotsAfter, sweepEffect, sweepOf, sweepRecords, targetRecord, topicEffect, topicRecords, updates, withTopic, groupEpochAfter}
 use Rattle.rules.specs.Course.{Typed}
+use Rattle.rules.specs.Theorems.{BatchFits, WithinLimits, NeverRoom, Reached}
+use Rattle.rules.proofs.Lists.{and-true, find-lt, not-is-false}
+use Rattle.theorems.proofs.Cases.{by-cases, if-cases}
+use Rattle.theorems.proofs.Refusing.{room-only-then}
+use Rattle.theorems.proofs.Accepting.{AllFalse, rows-false}
+use Rattle.theorems.proofs.ReadBack.{empty-set, slot-set}
+use Rattle.theorems.proofs.Moves.{length-retargeted, moves-advanced}
+use Rattle.theorems.proofs.SingleHolder.{joins-at}
+use Rattle.theorems.proofs.Reachable.{sender-epoch}
+use Rattle.theorems.proofs.Readable.{reached-inv}
+use Rattle.theorems.proofs.Bounds.{accepted-last, heartbeat-last, joiner-in-range, member-after-in-range, reached-in-range, reached-last, reached-members, reached-slots}
+use Rattle.theorems.proofs.Untouched.{good-topic}
 
 -- ---- numbers
 
@@ -43,11 +45,7 @@ short-1 (suc fuel) n h = rw (lt-ltb n 128 h) (omega arith)
 short-more : (k limit : ℕ) → Short k limit → Short (suc k) (limit * 128)
 unfolding groups
 short-more k limit s zero n h = omega arith
-short-more k limit s (suc fuel) n h = pick (ltb n 128) (s fuel (n / 128) (omega arith))
-  where
-    pick : (c : Bool) → length (groups fuel (n / 128)) ≤ k → length (if c then n ∷ [] else (n % 128 + 128) ∷ groups fuel (n / 128)) ≤ suc k
-    pick true e = omega arith
-    pick false e = omega arith
+short-more k limit s (suc fuel) n h = if-cases (λ (l : List ℕ). length l ≤ suc k) (ltb n 128) (λ _. omega arith) (λ _. omega (arith, s fuel (n / 128) (omega arith)))
 
 short-2 : Short 2 16384
 short-2 = short-more 1 128 short-1
@@ -58,27 +56,15 @@ short-3 = short-more 2 16384 short-2
 short-5 : Short 5 34359738368
 short-5 = short-more 4 268435456 (short-more 3 2097152 short-3)
 
-one-byte : (n : ℕ) → n < 128 → length (number n) ≤ 1
+bytes : (k limit : ℕ) → Short k limit → (n : ℕ) → n < limit → length (number n) ≤ k
 unfolding number
-one-byte n h = short-1 n n h
-
-two-bytes : (n : ℕ) → n < 16384 → length (number n) ≤ 2
-unfolding number
-two-bytes n h = short-2 n n h
-
-three-bytes : (n : ℕ) → n < 2097152 → length (number n) ≤ 3
-unfolding number
-three-bytes n h = short-3 n n h
-
-five-bytes : (n : ℕ) → n < 34359738368 → length (number n) ≤ 5
-unfolding number
-five-bytes n h = short-5 n n h
+bytes k limit s n h = s n n h
 
 place-size : (p : ℕ) → p < maxMembers → length (number p) ≤ 1
-place-size p h = one-byte p (omega arith)
+place-size p h = bytes 1 128 short-1 p (omega arith)
 
 epoch-size : (e : ℕ) → e ≤ lastEpoch → length (number e) ≤ 5
-epoch-size e h = five-bytes e (omega arith)
+epoch-size e h = bytes 5 34359738368 short-5 e (omega arith)
 
 -- ---- sets
 
@@ -87,47 +73,36 @@ unfolding differences
 differences-size [] from h = omega arith
 differences-size (x ∷ xs) from h =
     let k = and-true (ltb x slotCount) (all (λ y. ltb y slotCount) xs) h in
-    simp length-append (omega (arith, two-bytes (x - from) (omega (arith, ltb-true x slotCount (k .0))), differences-size xs x (k .1)))
+    simp length-append (omega (arith, bytes 2 16384 short-2 (x - from) (omega (arith, ltb-true x slotCount (k .0))), differences-size xs x (k .1)))
 
 set-size : (s : List ℕ) → isSlotSet s ≡ true → length s ≤ slotCount → length (setBytes s) ≤ 2 + 2 * length s
 unfolding setBytes isSlotSet
 set-size s h l =
-    simp length-append (omega (arith, two-bytes (length s) (omega arith), differences-size s 0 (and-true (rising 0 s) (all (λ x. ltb x slotCount) s) h .1)))
+    simp length-append (omega (arith, bytes 2 16384 short-2 (length s) (omega arith), differences-size s 0 (and-true (rising 0 s) (all (λ x. ltb x slotCount) s) h .1)))
 
 -- ---- how many pass a test
 
 module _ {A : Type 0} where
   indices-size : (f : A → Bool) (n : ℕ) (l : List A) → length (indices f n l) ≤ length l
   indices-size f n [] = omega arith
-  indices-size f n (x ∷ xs) = pick (f x) (indices-size f (suc n) xs)
-    where
-      pick : (c : Bool) → length (indices f (suc n) xs) ≤ length xs → length (if c then n ∷ indices f (suc n) xs else indices f (suc n) xs) ≤ suc (length xs)
-      pick true h = omega arith
-      pick false h = omega arith
+  indices-size f n (x ∷ xs) =
+      let h = indices-size f (suc n) xs in
+      if-cases (λ (l : List ℕ). length l ≤ suc (length xs)) (f x) (λ _. omega arith) (λ _. omega arith)
 
   -- two tests that none passes both: those that pass one and those that pass the other are those that pass either
   indices-either : (f g : A → Bool) → ((x : A) → f x && g x ≡ false) → (n : ℕ) (l : List A)
       → length (indices f n l) + length (indices g n l) ≡ length (indices (λ x. f x || g x) n l)
   indices-either f g apart n [] = refl
-  indices-either f g apart n (x ∷ xs) = pick (f x) (g x) (apart x) (indices-either f g apart (suc n) xs)
-    where
-      pick : (c d : Bool) → c && d ≡ false → length (indices f (suc n) xs) + length (indices g (suc n) xs) ≡ length (indices (λ y. f y || g y) (suc n) xs)
-          → length (if c then n ∷ indices f (suc n) xs else indices f (suc n) xs) + length (if d then n ∷ indices g (suc n) xs else indices g (suc n) xs)
-          ≡ length (if c || d then n ∷ indices (λ y. f y || g y) (suc n) xs else indices (λ y. f y || g y) (suc n) xs)
-      pick true true e h = absurd (true≢false e)
-      pick true false e h = omega arith
-      pick false true e h = omega arith
-      pick false false e h = h
+  indices-either f g apart n (x ∷ xs) =
+      let h = indices-either f g apart (suc n) xs in
+      by-cases (f x)
+      (λ e. let no : g x ≡ false = rw e at (apart x) in rw (e, no) (omega (arith, h)))
+      (λ e. by-cases (g x) (λ q. rw (e, q) (omega (arith, h))) (λ q. rw (e, q) h))
 
 -- a slot is not both in A and in P
 not-both : (p : ℕ) (s : SlotState) → assigned p s && revoking p s ≡ false
 unfolding assigned revoking
-not-both p s = pick (eqb (s .holder) p) (s .waiting)
-  where
-    pick : (c d : Bool) → (c && not d) && (c && d) ≡ false
-    pick true true = refl
-    pick true false = refl
-    pick false d = refl
+not-both p s = by-cases (eqb (s .holder) p) (λ e. by-cases (s .waiting) (λ w. rw (e, w) refl) (λ w. rw (e, w) refl)) (λ e. rw e refl)
 
 held-size : (p : ℕ) (ss : List SlotState) → length (setA p ss) + length (setP p ss) ≤ length ss
 unfolding setA setP
@@ -145,11 +120,7 @@ aims-below p n (suc k) h s e = rw (ne-eqb (s .target) n (λ q. omega arith)) (ai
 
 aims-once : (n k : ℕ) (s : SlotState) → targeted n s && aimsAt (upTo (suc n) k) s ≡ false
 unfolding targeted
-aims-once n k s = pick (eqb (s .target) n) refl
-  where
-    pick : (c : Bool) → eqb (s .target) n ≡ c → c && aimsAt (upTo (suc n) k) s ≡ false
-    pick true e = aims-below n (suc n) k (omega arith) s (eqb-true (s .target) n e)
-    pick false e = refl
+aims-once n k s = by-cases (eqb (s .target) n) (λ e. rw e (aims-below n (suc n) k (omega arith) s (eqb-true (s .target) n e))) (λ e. rw e refl)
 
 -- the targets of place n and of the k places after it
 targets-more : (n k : ℕ) (ss : List SlotState) → length (setM n ss) + length (indices (aimsAt (upTo (suc n) k)) 0 ss) ≡ length (indices (aimsAt (upTo n (suc k))) 0 ss)
@@ -168,13 +139,13 @@ target-epoch-size e h = omega (arith, epoch-size e h)
 
 topic-size : (t : TopicMetadata) → t .number < topicCount → length (t .id) ≡ idLength → t .count ≤ maxPartitions → length (bytesOf (topicIs t)) ≤ 19
 unfolding bytesOf
-topic-size t h long k = simp length-append (omega (arith, one-byte (t .number) (omega arith), one-byte (t .count) (omega arith)))
+topic-size t h long k = simp length-append (omega (arith, bytes 1 128 short-1 (t .number) (omega arith), bytes 1 128 short-1 (t .count) (omega arith)))
 
 member-size : (m : MemberMetadata) → m .place < maxMembers → length (m .id) ≡ idLength → m .timeout ≤ maxTimeout → m .subscription < subscriptionCount
     → length (bytesOf (memberIs m)) ≤ 25
 unfolding bytesOf
 member-size m h long t s =
-    simp length-append (omega (arith, place-size (m .place) h, three-bytes (m .timeout) (omega arith), three-bytes (m .subscription) (omega arith)))
+    simp length-append (omega (arith, place-size (m .place) h, bytes 3 2097152 short-3 (m .timeout) (omega arith), bytes 3 2097152 short-3 (m .subscription) (omega arith)))
 
 member-gone-size : (p : ℕ) → p < maxMembers → length (bytesOf (memberGone p)) ≤ 3
 unfolding bytesOf
@@ -261,14 +232,10 @@ leave-size p retargets raises e h l = within (both (gone-size p retargets h) (on
 removals-size : (f : ℕ → Bool) (ss : List SlotState) (n k : ℕ) → n + k ≤ maxMembers → AtMost (10 * k) (concatMap (removalRecords ss) (keep f (upTo n k)))
 unfolding keep upTo removalRecords
 removals-size f ss n zero h = no-records
-removals-size f ss n (suc k) h = pick (f n) (removals-size f ss (suc n) k (omega arith))
-  where
-    rest : List ℕ
-    rest = keep f (upTo (suc n) k)
-
-    pick : (c : Bool) → AtMost (10 * k) (concatMap (removalRecords ss) rest) → AtMost (10 * suc k) (concatMap (removalRecords ss) (if c then n ∷ rest else rest))
-    pick true a = within (both (gone-size n (any (targeted n) ss) (omega arith)) a) (omega arith)
-    pick false a = within a (omega arith)
+removals-size f ss n (suc k) h =
+    let a = removals-size f ss (suc n) k (omega arith) in
+    if-cases (λ ps. AtMost (10 * suc k) (concatMap (removalRecords ss) ps)) (f n)
+    (λ _. within (both (gone-size n (any (targeted n) ss) (omega arith)) a) (omega arith)) (λ _. within a (omega arith))
 
 sweep-size : (g : Group) (tick : ℕ) → sweepEffect g tick .group .epoch ≤ lastEpoch → AtMost batchLimit (sweepEffect g tick .records)
 unfolding sweepEffect sweepOf sweepRecords overduePlaces changed
@@ -321,55 +288,45 @@ known-place : (g : Group) (id : List ℕ) → length (g .members) ≡ maxMembers
 unfolding known placeOf
 known-place g id sized e = omega (arith, find-lt (isMember id) (g .members) e)
 
--- a topic's number and its count, where its row does not refuse them
-topic-limits : (g : Group) (t : ℕ) (id : List ℕ) (n : ℕ) → topicBad g t id n ≡ false → (t < topicCount) × (n ≤ maxPartitions)
-unfolding topicBad
-topic-limits g t id n e =
-    let a = or-false (leb topicCount t) _ e in
-    let c = or-false (ltb maxPartitions n) _ (or-false (eqb n 0) _ (a .1) .1) in
-    (leb-false topicCount t (a .0), ltb-false maxPartitions n (c .0))
-
 module _ (g : Group) (r : Reached g) where
-  heartbeat-fits : (b : Request) → Typed (heartbeat b) → (k : Kind) → AllFalse (heartbeatTable g b k) → Fits (heartbeatEffect g b k)
+  heartbeat-fits : (b : Request) → Typed (heartbeat b) → (k : Kind) → AllFalse (heartbeatTable g b k) → WithinLimits (heartbeatEffect g b k)
   unfolding heartbeatEffect joinEffect joinAt joiner metadataOf leaveEffect leaveAt ordinaryAt currentAfter memberAfter epochAfter slotsAfter setA heartbeatTable changed
   heartbeat-fits b typed joins rows =
       let h = reached-inv g r in
       let v = joiner-in-range g b (rows .0) (typed .1) in
       let p = joins-at (h .0 .ledger) g (h .1 .inv) b (rows .1 .0) .inside in
       record {
-        records = join-size _ (metadataOf (joinPlace g b) (joiner g b)) _ (omega (arith, reached-members g r)) (typed .0) (v .timeout) (v .subscription) (heartbeat-bounded g (reached-bounded g r) b (typed .1) joins rows .last) .size;
+        records = join-size _ (metadataOf (joinPlace g b) (joiner g b)) _ (omega (arith, reached-members g r)) (typed .0) (v .timeout) (v .subscription) (heartbeat-last g (reached-last g r) b joins rows) .size;
         told = omega arith;
       }
   heartbeat-fits b typed leaves rows = record {
-    records = leave-size (placeOf g (b .id)) _ _ _ (known-place g (b .id) (reached-members g r) (not-is-false (known g (b .id)) (rows .1 .0))) (heartbeat-bounded g (reached-bounded g r) b (typed .1) leaves rows .last) .size;
+    records = leave-size (placeOf g (b .id)) _ _ _ (known-place g (b .id) (reached-members g r) (not-is-false (known g (b .id)) (rows .1 .0))) (heartbeat-last g (reached-last g r) b leaves rows) .size;
     told = omega arith;
   }
   heartbeat-fits b typed invalid rows = absurd (true≢false (rows .0))
   heartbeat-fits b typed (ordinary e) rows =
       let p = placeOf g (b .id) in
       let here = not-is-false (known g (b .id)) (rows .1 .0) in
-      let v = reached-bounded g r in
-      let order = epochs-ordered g r in
-      let m = order .member p (memberAt g p) (member-known g p (b .id) (known-id g (b .id) here) .0) in
-      let epochs = epoch-bounds (waits p (g .slots) (b .owned) || revokes g (senderOf g b) b) (memberAt g p .epoch) (g .targetEpoch) (g .epoch) (m .0) (m .1) (order .target) in
+      let h = reached-inv g r in
+      let epochs = sender-epoch (h .0) g (h .1) b here in
       let wide : length (slotsAfter g (senderOf g b) b) ≡ slotCount = moves-advanced p (g .slots) (b .owned) .long ∙ reached-slots g r in
       let place = known-place g (b .id) (reached-members g r) here in
-      let range = member-after-in-range g b (rows .0) (typed .1) (v .members) in
+      let range = member-after-in-range g b (rows .0) (typed .1) (reached-in-range g r) in
       record {
         records = ordinary-size _ (metadataOf p (memberAfter g (senderOf g b) b)) _ (groupEpochAfter g (senderOf g b) b) _ p (epochAfter g (senderOf g b) b) (slotsAfter g (senderOf g b) b)
-            place (typed .0) (range .timeout) (range .subscription) (heartbeat-bounded g v b (typed .1) (ordinary e) rows .last) place (omega (arith, epochs .1, order .last)) wide .size;
+            place (typed .0) (range .timeout) (range .subscription) (heartbeat-last g (reached-last g r) b (ordinary e) rows) place (omega (arith, epochs .1, reached-last g r)) wide .size;
         told = omega (arith, indices-size (assigned p) 0 (slotsAfter g (senderOf g b) b));
       }
 
-  accepted-fits : (e : Event) → Typed e → AllFalse (table g e) → Fits (effect g e)
+  accepted-fits : (e : Event) → Typed e → AllFalse (table g e) → WithinLimits (effect g e)
   unfolding effect table sweepEffect sweepOf topicEffect withTopic installEffect
   accepted-fits (heartbeat b) typed rows = heartbeat-fits b typed (kindOf (b .epoch)) (rows .1)
-  accepted-fits (sweep tick) typed rows = record { records = sweep-size g tick (accepted-bounded g (sweep tick) typed (reached-bounded g r) rows .last) .size; told = omega arith }
+  accepted-fits (sweep tick) typed rows = record { records = sweep-size g tick (accepted-last g (sweep tick) (reached-last g r) rows) .size; told = omega arith }
   accepted-fits (topic t id n) typed rows =
-      let l = topic-limits g t id n (rows .0) in
-      record { records = topic-records-size _ (record { number = t; id = id; count = n }) _ _ (l .0) typed (l .1) (accepted-bounded g (topic t id n) typed (reached-bounded g r) rows .last) .size; told = omega arith }
+      let good = good-topic g t n id (rows .0) in
+      record { records = topic-records-size _ (record { number = t; id = id; count = n }) _ _ (good .number) typed (good .most) (accepted-last g (topic t id n) (reached-last g r) rows) .size; told = omega arith }
   accepted-fits (install e entries) typed rows = record {
-    records = install-size (g .slots) (retargeted (g .slots) entries) (g .epoch) (omega (arith, length-retargeted (g .slots) entries, reached-slots g r)) (reached-bounded g r .last) .size;
+    records = install-size (g .slots) (retargeted (g .slots) entries) (g .epoch) (omega (arith, length-retargeted (g .slots) entries, reached-slots g r)) (reached-last g r) .size;
     told = omega arith;
   }
 
@@ -381,8 +338,5 @@ batch-fits g r e typed h = accepted-fits g r e typed (rows-false g e h)
 pub never-room : NeverRoom
 never-room g r e typed buffer list roomy wide h =
     let k = room-only-then g e buffer list h in
-    pick (batch-fits g r e typed (k .0)) (k .1)
-  where
-    pick : Fits (effect g e) → (length buffer < length (allBytes (effect g e .records))) ⊎ (length list < length (effect g e .told)) → ⊥
-    pick f (inl x) = omega (arith, f .records)
-    pick f (inr x) = omega (arith, f .told)
+    let f = batch-fits g r e typed (k .0) in
+    ⊎-elim (λ x. omega (arith, f .records)) (λ x. omega (arith, f .told)) (k .1)

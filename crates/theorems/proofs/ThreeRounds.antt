@@ -1,11 +1,11 @@
--- The three rounds.
-use Prim.Native.Nat.{ℕ, _+_, _-_}
-use native.Mathlib.Nat.{zero-add}
+-- The three rounds: a regular heartbeat is accepted, and each round brings every member one stage further: A within M; then P empty too; then A equal to M
+-- and E equal to the install's epoch. A stage reached is kept by the heartbeats of all members.
+use Prim.Native.Nat.{ℕ}
 use native.Mathlib.Omega.{arith}
 use mathlib.Core.Path.{_≡_, refl, sym, ap, _∙_, subst}
-use mathlib.Core.Logic.{_≢_, _⊎_, inl, inr}
-use mathlib.Core.Bool.{Bool, true, false, not, _&&_}
-use mathlib.Core.List.{List, [], _∷_, _++_, List·Memᴰ}
+use mathlib.Core.Logic.{_≢_, ⊎-elim, inl, inr}
+use mathlib.Core.Bool.{true, false, not}
+use mathlib.Core.List.{List, [], _∷_, _++_, List·Memᴰ, foldl-append}
 use mathlib.Core.Option.{Option, none, some}
 use lib.ListN.{length, getD}
 use lib.Seq.{getD-set-same, getD-set-other}
@@ -15,35 +15,48 @@ use Rattle.rules.specs.Basics.{any, default, indices}
 use Rattle.rules.specs.Constants.{noPlace}
 use Rattle.rules.specs.Group.{Group, Member, SlotState, assigned, freeSlot, fresh, known, memberAt, placeOf, revoking, setA, setP}
 use Rattle.rules.specs.Event.{Event, Request, heartbeat, install, onHeartbeat, sweep, topic}
-use Rattle.rules.specs.Refusals.{Row, _when_, firstOf, heartbeatTable, newSubscription, notHeldBy, ordinary, resubscribes, senderOf, table}
+use Rattle.rules.specs.Refusals.{firstOf, heartbeatTable, newSubscription, notHeldBy, ordinary, resubscribes, senderOf, table}
 use Rattle.rules.specs.Effects.{advanced, changed, effect, epochAfter, heartbeatEffect, memberAfter, ordinaryAt, ordinaryEffect, revokes, slotsAfter, strays, waits}
 use Rattle.rules.specs.Step.{carryOut, step, verdict}
 use Rattle.rules.specs.Ledger.{named}
-use Rattle.rules.specs.Rounds.{AllRegular, From, Regular, RegularCall, Round, Sends, Settled, ThreeRounds}
-use Rattle.rules.proofs.Lists.{and-true, indices-sound}
-use Rattle.theorems.proofs.SingleHolder.{AllFalse, eq-cases, holderIn, id-lt, idIn, ids-same, known-id, member-placed, none-not, unknown-id}
-use Rattle.theorems.proofs.Moves.{Moves, indices-ext, indices-none, moves-advanced, not-assigned, target-advanced, targetIn, waitingIn}
-use Rattle.theorems.proofs.Members.{MemberOk, Occupied}
-use Rattle.theorems.proofs.InForce.{InForce, in-force-same}
-use Rattle.theorems.proofs.Reachable.{RInv, RInvC, after-rinv, begun-rinv, group-epoch-same, member-known, next-rinv}
-use Rattle.theorems.proofs.Stages.{Clean, Filled, Within, any-none-mem, clean-other, full-other, no-strays, no-wait, not-revoking-of, own-clean, own-full, own-within, within-other}
 use Rattle.rules.specs.Course.{AllTyped, Call, Course, History, Installed, Told, Typed, begun, courseAfter, next, stepped}
+use Rattle.rules.specs.Rounds.{AllRegular, From, Regular, RegularCall, Round, Sends, Settled, ThreeRounds}
+use Rattle.theorems.proofs.Cases.{by-cases, eq-cases, none-not}
+use Rattle.theorems.proofs.Picks.{any-none-mem, indices-ext, indices-none, passes}
+use Rattle.theorems.proofs.Accepting.{AllFalse, none-of}
+use Rattle.theorems.proofs.Slots.{is-assigned, not-assigned, not-revoking, of-assigned}
+use Rattle.theorems.proofs.Moves.{Moves, holderIn, moves-advanced, target-advanced, targetIn, waitingIn}
+use Rattle.theorems.proofs.SingleHolder.{id-lt, idIn, ids-same, known-id, member-placed, unknown-id}
+use Rattle.theorems.proofs.Members.{MemberOk, Occupied}
+use Rattle.theorems.proofs.InForce.{AsInstalled, InForce, in-force-same}
+use Rattle.theorems.proofs.Reachable.{RInv, RInvC, after-rinv, begun-rinv, group-epoch-same, member-known, next-rinv}
+use Rattle.theorems.proofs.Stages.{Clean, Filled, Within, clean-other, full-other, no-strays, no-wait, own-clean, own-full, own-within, within-other}
 
 -- ---- a regular heartbeat is accepted
 
-none-of : (rows more : List Row) → AllFalse rows → firstOf more ≡ none → firstOf (rows ++ more) ≡ none
-unfolding firstOf
-none-of [] more a e = e
-none-of ((r when b) ∷ rows) more a e = rw (a .0) (none-of rows more (a .1) e)
-
 known-of : (g : Group) (p : ℕ) (id : List ℕ) → idIn (g .members) p ≡ some id → known g id ≡ true
-known-of g p id e = pick (known g id) refl
-  where
-    pick : (c : Bool) → known g id ≡ c → known g id ≡ true
-    pick true q = q
-    pick false q = absurd (unknown-id g id q p e)
+known-of g p id e = by-cases (known g id) (λ q. q) (λ q. absurd (unknown-id g id q p e))
 
-module _ (h : History) (g : Group) (v : RInv h g) (b : Request) (buffer list : List ℕ) (r : Regular h g b buffer list) where
+-- a regular heartbeat of b in the course c, with what is lent to it
+record Beat (c : Course) (b : Request) : Type 0 where
+  buffer : List ℕ
+  list : List ℕ
+  rinv : RInvC c
+  regular : Regular (c .history) (c .group) b buffer list
+
+module _ (c : Course) (b : Request) (beat : Beat c b) where
+  abbrev h : History
+  h = c .history
+
+  abbrev g : Group
+  g = c .group
+
+  v : RInv h g
+  v = beat .rinv
+
+  r : Regular h g b (beat .buffer) (beat .list)
+  r = beat .regular
+
   abbrev p : ℕ
   p = placeOf g (b .id)
 
@@ -72,48 +85,32 @@ module _ (h : History) (g : Group) (v : RInv h g) (b : Request) (buffer list : L
   mine s m = subst (λ (t : Told). List·Memᴰ s (t .slots)) last-is (r .within s m)
 
   no-stranger : any (notHeldBy g p) (default [] (b .owned)) ≡ false
-  unfolding notHeldBy setA assigned
-  no-stranger = subst (λ (o : Option (List ℕ)). any (notHeldBy g p) (default [] o) ≡ false) (sym (r .gives)) (any-none-mem (notHeldBy g p) (r .listed) (λ s m. at s (mine s m)))
-    where
-      at : (s : ℕ) → List·Memᴰ s (setA p (g .slots)) → not (eqb (getD (g .slots) s freeSlot .holder) p) ≡ false
-      at s m =
-          let k = indices-sound (assigned p) (g .slots) 0 freeSlot m in
-          rw (k .1 ∙ zero-add (k .0)) (ap not (and-true (eqb (getD (g .slots) (k .0) freeSlot .holder) p) (not (getD (g .slots) (k .0) freeSlot .waiting)) (k .3) .0))
+  unfolding notHeldBy setA
+  no-stranger = subst (λ (o : Option (List ℕ)). any (notHeldBy g p) (default [] o) ≡ false) (sym (r .gives)) (any-none-mem (notHeldBy g p) (r .listed) (λ s m.
+      let x = getD (g .slots) s freeSlot in ap not (eq-eqb (x .holder) p (of-assigned p x (passes (assigned p) (g .slots) freeSlot s (mine s m)) .0))))
 
   no-change : resubscribes (senderOf g b .member) b ≡ false
   unfolding resubscribes newSubscription
-  no-change = ap not (eq-eqb (default (mem .subscription) (b .subscription)) (mem .subscription) (pick (r .resubscribed)))
-    where
-      pick : (b .subscription ≡ none) ⊎ (b .subscription ≡ some (h .subscription (b .id))) → default (mem .subscription) (b .subscription) ≡ mem .subscription
-      pick (inl e) = rw e refl
-      pick (inr e) = rw e (ap (h .subscription) (sym (mem-is .1)) ∙ mem-ok .subs)
+  no-change = ap not (eq-eqb (default (mem .subscription) (b .subscription)) (mem .subscription)
+      (⊎-elim (λ e. rw e refl) (λ e. rw e (ap (h .subscription) (sym (mem-is .1)) ∙ mem-ok .subs)) (r .resubscribed)))
 
   rows : AllFalse (heartbeatTable g b (ordinary (h .last (b .id) .epoch)))
   unfolding heartbeatTable
   rows = (
     r .wellFormed,
-    (
-      ap not isKnown,
-      (
-        ap not (eq-eqb (h .last (b .id) .epoch) (mem .epoch) (ap (λ (t : Told). t .epoch) last-is)),
-        (no-stranger, (rw no-change refl, tt)),
-      ),
-    ),
+    (ap not isKnown, (ap not (eq-eqb (h .last (b .id) .epoch) (mem .epoch) (ap (λ (t : Told). t .epoch) last-is)), (no-stranger, (rw no-change refl, tt)))),
   )
 
-  accepted : verdict g (heartbeat b) buffer list ≡ none
+  accepted : verdict g (heartbeat b) (beat .buffer) (beat .list) ≡ none
   unfolding verdict table firstOf
   accepted = none-of (table g (heartbeat b)) _ all (rw (r .roomy) refl)
     where
       all : AllFalse (table g (heartbeat b))
       all = (r .timely, rw (r .kind) rows)
 
-  stepped-is : step g (heartbeat b) buffer list .group ≡ ordinaryEffect g b .group
+  stepped-is : step g (heartbeat b) (beat .buffer) (beat .list) .group ≡ ordinaryEffect g b .group
   unfolding step carryOut effect heartbeatEffect
   stepped-is = rw (accepted, r .kind) refl
-
-  mem-after : idIn (g .members) (placeOf g (b .id)) ≡ some (b .id)
-  mem-after = here
 
   -- ---- what it does to the slots
 
@@ -175,20 +172,16 @@ module _ (h : History) (g : Group) (v : RInv h g) (b : Request) (buffer list : L
       )
       (omega (arith, mem-ok .low))
 
-is-assigned : (q : ℕ) (x : SlotState) → x .holder ≡ q → x .waiting ≡ false → assigned q x ≡ true
-unfolding assigned
-is-assigned q x e w = rw (eq-eqb (x .holder) q e, w) refl
-
 -- ---- the sets of a place whose A is its M
 
 done-sets : (q : ℕ) (ss : List SlotState) (ms : List (Option Member)) (entries : List ℕ) → length ss ≡ length entries → q ≢ noPlace → Occupied ms q → Clean q ss → Filled q ss
-    → ((s : ℕ) → (targetIn ss s ≡ getD entries s noPlace) ⊎ ((targetIn ss s ≡ noPlace) × (idIn ms (getD entries s noPlace) ≡ none)))
+    → ((s : ℕ) → AsInstalled ms (targetIn ss s) (getD entries s noPlace))
     → (setA q ss ≡ indices (λ e. eqb e q) 0 entries) × (setP q ss ≡ [])
 unfolding setA setP holderIn waitingIn targetIn
 done-sets q ss ms entries long away o clean full at =
-    (indices-ext (assigned q) (λ e. eqb e q) freeSlot noPlace ss entries 0 long (λ k _. test k (at k)), indices-none (revoking q) freeSlot ss 0 (λ k _. not-revoking-of q (getD ss k freeSlot) (λ e. clean k e .0)))
+    (indices-ext (assigned q) (λ e. eqb e q) freeSlot noPlace ss entries 0 long (λ k _. test k (at k)), indices-none (revoking q) freeSlot ss 0 (λ k _. not-revoking q (getD ss k freeSlot) (λ e. clean k e .0)))
   where
-    test : (k : ℕ) → (targetIn ss k ≡ getD entries k noPlace) ⊎ ((targetIn ss k ≡ noPlace) × (idIn ms (getD entries k noPlace) ≡ none)) → assigned q (getD ss k freeSlot) ≡ eqb (getD entries k noPlace) q
+    test : (k : ℕ) → AsInstalled ms (targetIn ss k) (getD entries k noPlace) → assigned q (getD ss k freeSlot) ≡ eqb (getD entries k noPlace) q
     test k (inl e) = eq-cases (getD entries k noPlace) q
         (λ f. let x = full k (e ∙ f) in is-assigned q (getD ss k freeSlot) x (clean k x .0) ∙ sym (eq-eqb (getD entries k noPlace) q f))
         (λ f. not-assigned q (getD ss k freeSlot) (λ x. f (sym e ∙ clean k x .1)) ∙ sym (ne-eqb (getD entries k noPlace) q f))
@@ -204,9 +197,6 @@ heartbeats-only X P f (topic t id n) x = absurd x
 heartbeats-only X P f (install e entries) x = absurd x
 
 -- ---- along the rounds
-
-abbrev RegularIn : Course → Request → List ℕ → List ℕ → Type 0
-RegularIn c b buffer list = Regular (c .history) (c .group) b buffer list
 
 abbrev beaten : Course → Request → Group
 beaten c b = ordinaryEffect (c .group) b .group
@@ -224,79 +214,66 @@ module _ (N : ℕ → Option (List ℕ)) (i : Installed) where
   away : (c : Course) → Underway N i c → (q : ℕ) (id : List ℕ) → N q ≡ some id → q ≢ noPlace
   away c t q id e = member-placed (c .group .members) q id (t .rinv .inv .sized) (ids c t q ∙ e)
 
-  beat-in-force : (c : Course) (b : Request) (buffer list : List ℕ) → Underway N i c → RegularIn c b buffer list
+  beat-in-force : (c : Course) (b : Request) → Underway N i c → Beat c b
       → InForce (beaten c b .epoch) (beaten c b .targetEpoch) (beaten c b .members) (beaten c b .slots) i
   unfolding ordinaryAt changed slotsAfter memberAfter
-  beat-in-force c b buffer list t r =
+  beat-in-force c b t r =
       let g = c .group in
       let v = t .rinv in
-      rw (group-epoch-same g (senderOf g b) b (no-change (c .history) g v b buffer list r))
-      (in-force-same (g .epoch) (g .targetEpoch) (g .members) _ (g .slots) _ i
-      (ids-same (c .history .ledger .worksOn) (c .history .ledger .name) (g .members) (g .slots) (v .inv) (placeOf g (b .id)) (memberAfter g (senderOf g b) b) (here (c .history) g v b buffer list r))
+      rw (group-epoch-same g (senderOf g b) b (no-change c b r))
+      (in-force-same (ids-same (v .inv) (placeOf g (b .id)) (memberAfter g (senderOf g b) b) (here c b r))
       (target-advanced (placeOf g (b .id)) (g .slots) (b .owned)) (t .inForce))
 
-  beat-ids : (c : Course) (b : Request) (buffer list : List ℕ) (t : Underway N i c) → RegularIn c b buffer list → (q : ℕ) → idIn (beaten c b .members) q ≡ N q
+  beat-ids : (c : Course) (b : Request) (t : Underway N i c) → Beat c b → (q : ℕ) → idIn (beaten c b .members) q ≡ N q
   unfolding ordinaryAt changed memberAfter
-  beat-ids c b buffer list t r q =
+  beat-ids c b t r q =
       let g = c .group in
       let v = t .rinv in
-      ids-same (c .history .ledger .worksOn) (c .history .ledger .name) (g .members) (g .slots) (v .inv) (placeOf g (b .id)) (memberAfter g (senderOf g b) b) (here (c .history) g v b buffer list r) q
+      ids-same (v .inv) (placeOf g (b .id)) (memberAfter g (senderOf g b) b) (here c b r) q
       ∙ ids c t q
 
-  next-round : (c : Course) (t : Call) → Underway N i c → Typed (t .event) → RegularCall c t → Underway N i (next c t)
+  -- what a regular heartbeat's effect has, the group after a regular call has
+  on-beat : (c : Course) (t : Call) → Underway N i c → RegularCall c t → (S : Event → Group → Type 0)
+      → ((b : Request) → Beat c b → S (heartbeat b) (beaten c b)) → S (t .event) (next c t .group)
   unfolding next stepped
+  on-beat c t v r S f =
+      heartbeats-only (λ b. Regular (c .history) (c .group) b (t .buffer) (t .list)) (λ e. S e (step (c .group) e (t .buffer) (t .list) .group))
+      (λ b x.
+      let k : Beat c b = record { buffer = t .buffer; list = t .list; rinv = v .rinv; regular = x } in
+      subst (S (heartbeat b)) (sym (stepped-is c b k)) (f b k)) (t .event) r
+
+  next-round : (c : Course) (t : Call) → Underway N i c → Typed (t .event) → RegularCall c t → Underway N i (next c t)
   next-round c t v ok r =
-      heartbeats-only (λ b. RegularIn c b (t .buffer) (t .list))
-      (λ e. Typed e → Underway N i (next c (record { event = e; buffer = t .buffer; list = t .list }))) (λ b x ok. beat b x ok) (t .event) r ok
-    where
-      beat : (b : Request) → RegularIn c b (t .buffer) (t .list) → Typed (heartbeat b) → Underway N i (next c (record { event = heartbeat b; buffer = t .buffer; list = t .list }))
-      beat b x ok =
-          let e = stepped-is (c .history) (c .group) (v .rinv) b (t .buffer) (t .list) x in
-          let w = next-rinv c (record { event = heartbeat b; buffer = t .buffer; list = t .list }) ok (v .rinv) in
-          record {
-            rinv = w;
-            inForce = subst (λ (x : Group). InForce (x .epoch) (x .targetEpoch) (x .members) (x .slots) i) (sym e) (beat-in-force c b (t .buffer) (t .list) v x);
-            names = λ q. w .inv .names q ∙ ap (λ (x : Group). idIn (x .members) q) e ∙ beat-ids c b (t .buffer) (t .list) v x q;
-          }
+      let w = next-rinv c t ok (v .rinv) in
+      record {
+        rinv = w;
+        inForce = on-beat c t v r (λ _ g. InForce (g .epoch) (g .targetEpoch) (g .members) (g .slots) i) (λ b k. beat-in-force c b v k);
+        names = λ q. w .inv .names q ∙ on-beat c t v r (λ _ g. idIn (g .members) q ≡ N q) (λ b k. beat-ids c b v k q);
+      }
 
   -- a stage Q of an ID is reached where P holds on the way: P and Q are kept, and the ID's own heartbeat brings Q
   record Stage (P Q : Group → Type 0) (id : List ℕ) : Type 0 where
-    keepP : (c : Course) (b : Request) (buffer list : List ℕ) → Underway N i c → RegularIn c b buffer list → P (c .group) → P (beaten c b)
-    keepQ : (c : Course) (b : Request) (buffer list : List ℕ) → Underway N i c → RegularIn c b buffer list → P (c .group) → Q (c .group) → Q (beaten c b)
-    getQ : (c : Course) (b : Request) (buffer list : List ℕ) → Underway N i c → RegularIn c b buffer list → b .id ≡ id → P (c .group) → Q (beaten c b)
+    keepP : (c : Course) (b : Request) → Underway N i c → Beat c b → P (c .group) → P (beaten c b)
+    keepQ : (c : Course) (b : Request) → Underway N i c → Beat c b → P (c .group) → Q (c .group) → Q (beaten c b)
+    getQ : (c : Course) (b : Request) → Underway N i c → Beat c b → b .id ≡ id → P (c .group) → Q (beaten c b)
 
   module _ (P Q : Group → Type 0) (id : List ℕ) (z : Stage P Q id) where
-    -- from a heartbeat's effect to the group after its call
-    carry : (R : Group → Type 0) (c : Course) (t : Call) → Underway N i c → RegularCall c t
-        → ((b : Request) → RegularIn c b (t .buffer) (t .list) → From id (heartbeat b) → R (beaten c b)) → From id (t .event) → R (next c t .group)
-    unfolding next stepped
-    carry R c t v r f from =
-        heartbeats-only (λ b. RegularIn c b (t .buffer) (t .list)) (λ e. From id e → R (step (c .group) e (t .buffer) (t .list) .group))
-        (λ b x from. subst R (sym (stepped-is (c .history) (c .group) (v .rinv) b (t .buffer) (t .list) x)) (f b x from)) (t .event) r from
-
-    carryAny : (R : Group → Type 0) (c : Course) (t : Call) → Underway N i c → RegularCall c t
-        → ((b : Request) → RegularIn c b (t .buffer) (t .list) → R (beaten c b)) → R (next c t .group)
-    unfolding next stepped
-    carryAny R c t v r f =
-        heartbeats-only (λ b. RegularIn c b (t .buffer) (t .list)) (λ e. R (step (c .group) e (t .buffer) (t .list) .group))
-        (λ b x. subst R (sym (stepped-is (c .history) (c .group) (v .rinv) b (t .buffer) (t .list) x)) (f b x)) (t .event) r
-
     nextP : (c : Course) (t : Call) → Underway N i c → RegularCall c t → P (c .group) → P (next c t .group)
-    nextP c t v r x = carryAny P c t v r (λ b k. z .keepP c b (t .buffer) (t .list) v k x)
+    nextP c t v r x = on-beat c t v r (λ _ g. P g) (λ b k. z .keepP c b v k x)
 
     keepAll : (ts : List Call) (c : Course) → Underway N i c → AllTyped ts → AllRegular c ts → P (c .group) → Q (c .group) → Q (courseAfter c ts .group)
     unfolding courseAfter
     keepAll [] c v ok r x y = y
     keepAll (t ∷ ts) c v ok r x y =
         keepAll ts (next c t) (next-round c t v (ok .0) (r .0)) (ok .1) (r .1) (nextP c t v (r .0) x)
-        (carryAny Q c t v (r .0) (λ b k. z .keepQ c b (t .buffer) (t .list) v k x y))
+        (on-beat c t v (r .0) (λ _ g. Q g) (λ b k. z .keepQ c b v k x y))
 
     reach : (ts : List Call) (c : Course) → Underway N i c → AllTyped ts → AllRegular c ts → P (c .group) → Sends id ts → Q (courseAfter c ts .group)
     unfolding courseAfter
     reach [] c v ok r x s = absurd s
     reach (t ∷ ts) c v ok r x (inl f) =
         keepAll ts (next c t) (next-round c t v (ok .0) (r .0)) (ok .1) (r .1) (nextP c t v (r .0) x)
-        (carry Q c t v (r .0) (λ b k from. z .getQ c b (t .buffer) (t .list) v k from x) f)
+        (on-beat c t v (r .0) (λ e g. From id e → Q g) (λ b k from. z .getQ c b v k from x) f)
     reach (t ∷ ts) c v ok r x (inr s) = reach ts (next c t) (next-round c t v (ok .0) (r .0)) (ok .1) (r .1) (nextP c t v (r .0) x) s
 
   after-round : (ts : List Call) (c : Course) → Underway N i c → AllTyped ts → AllRegular c ts → Underway N i (courseAfter c ts)
@@ -320,28 +297,26 @@ module _ (N : ℕ → Option (List ℕ)) (i : Installed) where
 
   module _ (q : ℕ) (id : List ℕ) (named : N q ≡ some id) where
     -- the sender of a heartbeat with this ID stands at q
-    at-q : (c : Course) (b : Request) (buffer list : List ℕ) (t : Underway N i c) → RegularIn c b buffer list → b .id ≡ id → placeOf (c .group) (b .id) ≡ q
-    at-q c b buffer list t r e =
-        t .rinv .inv .distinct (placeOf (c .group) (b .id)) q id (here (c .history) (c .group) (t .rinv) b buffer list r ∙ ap some e) (ids c t q ∙ named)
+    at-q : (c : Course) (b : Request) (t : Underway N i c) → Beat c b → b .id ≡ id → placeOf (c .group) (b .id) ≡ q
+    at-q c b t r e = t .rinv .inv .distinct (placeOf (c .group) (b .id)) q id (here c b r ∙ ap some e) (ids c t q ∙ named)
 
     first-stage : Stage (λ _. Unit {0}) (λ g. Within q (g .slots)) id
     unfolding ordinaryAt changed ss′
     first-stage = record {
-      keepP = λ c b buffer list t r x. tt;
-      keepQ = λ c b buffer list t r x y. keep-within (c .history) (c .group) (t .rinv) b buffer list r q (away c t q id named) y;
-      getQ = λ c b buffer list t r e x.
-          subst (λ (k : ℕ). Within k (slotsAfter (c .group) (senderOf (c .group) b) b)) (at-q c b buffer list t r e) (get-within (c .history) (c .group) (t .rinv) b buffer list r);
+      keepP = λ c b t r x. tt;
+      keepQ = λ c b t r x y. keep-within c b r q (away c t q id named) y;
+      getQ = λ c b t r e x. subst (λ (k : ℕ). Within k (slotsAfter (c .group) (senderOf (c .group) b) b)) (at-q c b t r e) (get-within c b r);
     }
 
     second-stage : Stage (λ g. Within q (g .slots)) (λ g. Clean q (g .slots)) id
     unfolding ordinaryAt changed ss′
     second-stage = record {
-      keepP = λ c b buffer list t r x. keep-within (c .history) (c .group) (t .rinv) b buffer list r q (away c t q id named) x;
-      keepQ = λ c b buffer list t r x y. keep-clean (c .history) (c .group) (t .rinv) b buffer list r q (away c t q id named) y;
-      getQ = λ c b buffer list t r e x.
-          let k = at-q c b buffer list t r e in
+      keepP = λ c b t r x. keep-within c b r q (away c t q id named) x;
+      keepQ = λ c b t r x y. keep-clean c b r q (away c t q id named) y;
+      getQ = λ c b t r e x.
+          let k = at-q c b t r e in
           subst (λ (k : ℕ). Clean k (slotsAfter (c .group) (senderOf (c .group) b) b)) k
-          (get-clean (c .history) (c .group) (t .rinv) b buffer list r (subst (λ (k : ℕ). Within k (c .group .slots)) (sym k) x));
+          (get-clean c b r (subst (λ (k : ℕ). Within k (c .group .slots)) (sym k) x));
     }
 
     clean-of : (c : Course) → Underway N i c → AllClean (c .group) → (k : ℕ) → Occupied (c .group .members) k → Clean k (c .group .slots)
@@ -349,32 +324,32 @@ module _ (N : ℕ → Option (List ℕ)) (i : Installed) where
     clean-of c t x k o = x k (o .0) (sym (ids c t k) ∙ o .1)
 
     -- the sender has arrived
-    sender-arrives : (c : Course) (b : Request) (buffer list : List ℕ) (t : Underway N i c) → RegularIn c b buffer list → AllClean (c .group) → Arrived (placeOf (c .group) (b .id)) (beaten c b)
+    sender-arrives : (c : Course) (b : Request) (t : Underway N i c) → Beat c b → AllClean (c .group) → Arrived (placeOf (c .group) (b .id)) (beaten c b)
     unfolding ordinaryAt changed ss′ group′
-    sender-arrives c b buffer list t r x =
+    sender-arrives c b t r x =
         let h = c .history in
         let g = c .group in
         let v = t .rinv in
         let all = clean-of c t x in
-        let w : Within (placeOf g (b .id)) (g .slots) = λ s e f. all (placeOf g (b .id)) (b .id, here h g v b buffer list r) s e .1 in
+        let w : Within (placeOf g (b .id)) (g .slots) = λ s e f. all (placeOf g (b .id)) (b .id, here c b r) s e .1 in
         record {
-          clean = get-clean h g v b buffer list r w;
-          full = get-full h g v b buffer list r all;
-          epoch = member-own h g v b buffer list r ∙ epoch-is h g v b buffer list r w (t .inForce .target ∙ sym (t .inForce .epoch));
+          clean = get-clean c b r w;
+          full = get-full c b r all;
+          epoch = member-own c b r ∙ epoch-is c b r w (t .inForce .target ∙ sym (t .inForce .epoch));
         }
 
     third-stage : Stage AllClean (Arrived q) id
     unfolding ordinaryAt changed ss′ group′ AllClean
     third-stage = record {
-      keepP = λ c b buffer list t r x k j e. keep-clean (c .history) (c .group) (t .rinv) b buffer list r k (away c t k j e) (x k j e);
-      keepQ = λ c b buffer list t r x y. eq-cases q (placeOf (c .group) (b .id))
-          (λ e. subst (λ (k : ℕ). Arrived k (beaten c b)) (sym e) (sender-arrives c b buffer list t r x))
+      keepP = λ c b t r x k j e. keep-clean c b r k (away c t k j e) (x k j e);
+      keepQ = λ c b t r x y. eq-cases q (placeOf (c .group) (b .id))
+          (λ e. subst (λ (k : ℕ). Arrived k (beaten c b)) (sym e) (sender-arrives c b t r x))
           (λ e. record {
-            clean = keep-clean (c .history) (c .group) (t .rinv) b buffer list r q (away c t q id named) (y .clean);
-            full = keep-full (c .history) (c .group) (t .rinv) b buffer list r (clean-of c t x) q (away c t q id named) (y .full);
-            epoch = ap (λ (m : Member). m .epoch) (member-other (c .history) (c .group) (t .rinv) b buffer list r q e) ∙ y .epoch;
+            clean = keep-clean c b r q (away c t q id named) (y .clean);
+            full = keep-full c b r (clean-of c t x) q (away c t q id named) (y .full);
+            epoch = ap (λ (m : Member). m .epoch) (member-other c b r q e) ∙ y .epoch;
           });
-      getQ = λ c b buffer list t r e x. subst (λ (k : ℕ). Arrived k (beaten c b)) (at-q c b buffer list t r e) (sender-arrives c b buffer list t r x);
+      getQ = λ c b t r e x. subst (λ (k : ℕ). Arrived k (beaten c b)) (at-q c b t r e) (sender-arrives c b t r x);
     }
 
     -- ---- what a place that has arrived comes to
@@ -407,10 +382,9 @@ unfolding courseAfter
 regular-split [] b c r = (tt, r)
 regular-split (t ∷ ts) b c r = let x = regular-split ts b (next c t) (r .1) in ((r .0, x .0), x .1)
 
-pub course-append : (a b : List Call) (c : Course) → courseAfter c (a ++ b) ≡ courseAfter (courseAfter c a) b
+course-append : (a b : List Call) (c : Course) → courseAfter c (a ++ b) ≡ courseAfter (courseAfter c a) b
 unfolding courseAfter
-course-append [] b c = refl
-course-append (t ∷ ts) b c = course-append ts b (next c t)
+course-append a b c = foldl-append next c a b
 
 rounds : (c : Course) (i : Installed) → Underway (c .history .ledger .name) i c → (first second third : List Call)
     → AllTyped (first ++ (second ++ third)) → AllRegular c (first ++ (second ++ third))
