@@ -4,8 +4,7 @@
 //
 // A row: EVENT|ID|EPOCH|TICK|TIMEOUT|N|ROOM|NAME. Of the event the first letter counts, and a number stands right before the next bar. The ID is sixteen times
 // the byte. N is a topic's count, how many slots are listed (from 0 up), or the places for slots 0, 1 and 2 of an install, a digit each. ROOM is the length of
-// the buffer lent. The topic is topic 0, and a joiner subscribes to it.
-ghost use Prim.Native.Nat.{_≤_};
+// the buffer lent, 64 at most. The topic is topic 0, and a joiner subscribes to it.
 use events::Outcome;
 use events::Request;
 use group::Group;
@@ -132,15 +131,6 @@ fn read(r: Row, b: u8) -> Row {
     row
 }
 
-fn at_most(n: usize, most: usize) -> usize
-    ensures { λ r. ⌜ r ≤ most ⌝ }
-{
-    if n < most {
-        return n;
-    }
-    most
-}
-
 fn id(n: u32) -> [u8; 16] {
     [(n % 256) as u8; 16]
 }
@@ -173,7 +163,7 @@ fn request(row: Row) -> Request {
 // The first `count` of the slots 0, 1 and 2 are listed.
 fn heartbeat(g: Group, b: Request, count: usize, records: &mut [u8], list: &mut [u16]) -> Outcome {
     let held = [0u16, 1, 2];
-    let end = at_most(count, 3);
+    let end = count % 4;
     coordinator::heartbeat(g, b, &held[0..end], records, list)
 }
 
@@ -207,8 +197,11 @@ fn run(g: Group, row: Row, records: &mut [u8], list: &mut [u16]) -> Group {
     if row.event == b'f' {
         return coordinator::fresh(n[3]);
     }
-    let end = at_most(n[6] as usize, records.len());
-    let o = serve(g, row, &mut records[0..end], list);
+    let room = n[6] as usize;
+    if records.len() < room {
+        return g;
+    }
+    let o = serve(g, row, &mut records[0..room], list);
     let after = o.group;
     if row.has_name {
         let a = o.answer;

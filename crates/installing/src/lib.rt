@@ -42,18 +42,15 @@ fn install_at(g: Group, target: [u8; SLOTS], records: &mut [u8]) -> Outcome
 {
     let tables = g.tables;
     let before = tables.target;
-    let epoch = g.epoch;
-    let marks = retargeting::changed_places(&before, &target);
-    let size = retargeting::install_len(marks, &before, &target, epoch);
-    if records.len() < size {
+    let stored = retargeting::store_install(records, before, target, g.epoch);
+    if stored.short {
         return refused(g, Refusal::Room);
     }
-    let written = retargeting::put_install(records, marks, &before, &target, epoch);
     let after = tables.retarget(target);
     Outcome {
         group: group::changes::with_target(g, after),
         answer: Answer::Done,
-        written: written,
+        written: stored.written,
     }
 }
 

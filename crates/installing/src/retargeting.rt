@@ -11,7 +11,7 @@ ghost use Rattle.rules.specs.Records.{allBytes, targetIs};
 ghost use Rattle.rules.specs.Effects.{onlyIf, installRecords};
 ghost use Rattle.numbers.specs.Buffer.{Wrote};
 ghost use Rattle.records.specs.Views.{viewTarget};
-ghost use Rattle.installing.specs.Targets.{unheld, recordOf, recordsOf, Marked};
+ghost use Rattle.installing.specs.Targets.{unheld, recordOf, recordsOf, Marked, Stores};
 use records::kinds::TargetAssignment;
 use rules::MEMBERS;
 use rules::Place;
@@ -24,8 +24,14 @@ struct Retarget {
     target: TargetAssignment,
 }
 
+// What storing the records came to: whether the buffer is too short for them, and then nothing is written; else how many bytes they took.
+pub struct Stored {
+    pub short: bool,
+    pub written: usize,
+}
+
 // A mark for each place.
-pub struct Marks {
+struct Marks {
     at: [bool; MEMBERS],
 }
 
@@ -45,7 +51,7 @@ impl Marks {
 }
 
 // The places at which two targets differ: a place that is not marked has the same set in both.
-pub fn changed_places<'a>(before: &'a [u8; SLOTS], after: &'a [u8; SLOTS]) -> Marks
+fn changed_places<'a>(before: &'a [u8; SLOTS], after: &'a [u8; SLOTS]) -> Marks
     requires { ⌜ (length (now before) ≡ slotCount) × (length (now after) ≡ slotCount) ⌝ }
     ensures { λ r. ⌜ Marked (r .at) (now (before .entry)) (now (after .entry)) ⌝ }
 {
@@ -116,7 +122,7 @@ fn targets_len<'a>(marks: Marks, before: &'a [u8; SLOTS], after: &'a [u8; SLOTS]
 }
 
 // How many bytes the records of an install take.
-pub fn install_len<'a>(
+fn install_len<'a>(
     marks: Marks,
     before: &'a [u8; SLOTS],
     after: &'a [u8; SLOTS],
@@ -153,7 +159,7 @@ fn put_targets<'a>(
 }
 
 // Writes the records of an install to the start of the buffer, and leaves the rest of it alone. Returns how many bytes they take.
-pub fn put_install<'a>(
+fn put_install<'a>(
     buf: &mut [u8],
     marks: Marks,
     before: &'a [u8; SLOTS],
@@ -165,4 +171,23 @@ pub fn put_install<'a>(
 {
     let at = put_targets(buf, marks, before, after);
     at + records::kinds::put_target_epoch(&mut buf[at..], epoch)
+}
+
+// Stores the records of an install, by which the target `after` replaces `before`, at the start of the buffer if it has room for them.
+pub fn store_install(buf: &mut [u8], before: [u8; SLOTS], after: [u8; SLOTS], epoch: u32) -> Stored
+    ensures { λ r. ⌜ Stores (allBytes (installRecords (unheld before) (unheld after) epoch)) (now (buf .entry)) (now (buf .exit)) r ⌝ }
+{
+    let marks = changed_places(&before, &after);
+    let size = install_len(marks, &before, &after, epoch);
+    if buf.len() < size {
+        return Stored {
+            short: true,
+            written: 0,
+        };
+    }
+    let written = put_install(buf, marks, &before, &after, epoch);
+    Stored {
+        short: false,
+        written: written,
+    }
 }

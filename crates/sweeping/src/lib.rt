@@ -134,7 +134,7 @@ fn sweep_some(g: Group, gone: [bool; MEMBERS], count: u32, tick: u32, records: &
     ensures { λ r. ⌜ RefusalKeeps g r × ((l : List ℕ) → took r (now (records .exit)) l ≡ carried (view g) (sweepOf (view g) (marked gone) tick) (now (records .entry)) l) ⌝ }
 {
     let tables = g.tables;
-    let targets = overdue::target_places(&tables.target);
+    let targets = overdue::target_places(tables);
     let raises = !epochs::at_end(g.epoch);
     let epoch = epochs::raised_epoch(g.epoch);
     let size = sweep_len(gone, targets, raises, epoch);

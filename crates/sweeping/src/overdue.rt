@@ -8,7 +8,7 @@ ghost use lib.ListN.{length, getD};
 ghost use Rattle.rules.specs.Constants.{maxMembers, slotCount};
 ghost use Rattle.rules.specs.Group.{revoking, targeted};
 ghost use Rattle.rules.specs.Effects.{due, overduePlaces};
-ghost use Rattle.tables.specs.View.{viewLists};
+ghost use Rattle.tables.specs.View.{viewLists, viewTables};
 ghost use Rattle.group.specs.View.{view, viewSeat};
 ghost use Rattle.sweeping.specs.Marks.{Marks, marked};
 use group::Group;
@@ -16,6 +16,7 @@ use group::Seat;
 use group::seats;
 use rules::MEMBERS;
 use rules::SLOTS;
+use tables::Tables;
 
 // An entry of a table as an index of places: that of its place, or one past the last.
 fn index(entry: u8) -> usize
@@ -69,8 +70,8 @@ fn revoking_places<'a>(holder: &'a [u8; SLOTS], waiting: &'a [bool; SLOTS]) -> [
     [false; MEMBERS]
 }
 
-// The places that are the target of some slot.
-pub fn target_places(target: &[u8; SLOTS]) -> [bool; MEMBERS]
+// The places that are the target of some slot, slot by slot.
+fn mark_targets(target: &[u8; SLOTS]) -> [bool; MEMBERS]
     requires { ⌜ length (now target) ≡ slotCount ⌝ }
     ensures { λ r. ⌜ ((hs : List ℕ) (ws : List Bool) → length hs ≡ slotCount → length ws ≡ slotCount → Marks targeted (viewLists (now (target .entry)) hs ws) r) ⌝ }
 {
@@ -84,6 +85,13 @@ pub fn target_places(target: &[u8; SLOTS]) -> [bool; MEMBERS]
         }
     }
     targets
+}
+
+// The places that are the target of some slot.
+pub fn target_places(tables: Tables) -> [bool; MEMBERS]
+    ensures { λ r. ⌜ Marks targeted (viewTables tables) r ⌝ }
+{
+    mark_targets(&tables.target)
 }
 
 // The places whose members are due at a tick, by the marks of those with slots to give back.

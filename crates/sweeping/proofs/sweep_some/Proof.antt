@@ -4,13 +4,10 @@ use mathlib.Core.Bool.{not}
 use mathlib.Core.List.{_++_}
 use mathlib.Core.Path.{_≡_, refl, sym, ap, _∙_, subst}
 use lib.ListN.{length}
-use borrow.Author.Needs.{needs}
-use Rattle.rules.specs.Constants.{slotCount}
 use Rattle.rules.specs.Effects.{onlyIf, sweepOf}
 use Rattle.rules.specs.Records.{groupEpoch}
 use Rattle.rules.specs.declared.Answer.the-variants.{Swept}
 use Rattle.numbers.specs.Buffer.{Wrote}
-use Rattle.tables.specs.View.{viewTables}
 use Rattle.group.specs.View.{view}
 use Rattle.sweeping.specs.Marks.{marked, markedRecords}
 use Rattle.events.proofs.Carrying.{keeps-refused, keeps-answer}
@@ -20,23 +17,20 @@ use Rattle.sweeping.proofs.sweep_some.Statement.{statement}
 use Rattle.sweeping.proofs.sweep_some.Tie as tie
 
 abbrev start : tie.After-sweep-len → tie.Start
-start c = c .before .before .before .before .before .before .before .before
+start c = c .before .before .before .before .before .before
 
 -- what the code stores is what the effect does
 recorded : (c : tie.After-sweep-len)
     → (markedRecords (start c .args .gone) (c .before .before .before .target-places .result) ++ onlyIf (not (c .before .before .at-end .result)) (groupEpoch (c .before .raised-epoch .result)))
     ≡ sweepOf (view (start c .args .g)) (marked (start c .args .gone)) (start c .args .tick) .records
-unfolding viewTables
 recorded c =
     let a = start c .args in
     let n = start c .pre in
-    let nh : length (a .g .tables .holder) ≡ slotCount = search needs in
-    let nw : length (a .g .tables .waiting) ≡ slotCount = search needs in
     sweep-records (a .g) (a .gone) (a .tick) (omega (arith, n .0, n .1)) (c .before .raised-epoch .ensures) (c .before .before .before .target-places .result)
-    (c .before .before .before .target-places .ensures (a .g .tables .holder) (a .g .tables .waiting) nh nw) (ap not (c .before .before .at-end .ensures))
+    (c .before .before .before .target-places .ensures) (ap not (c .before .before .at-end .ensures))
 
 target-places-requires : tie.Need-target-places-requires
-target-places-requires c κs = search needs
+target-places-requires c κs = tt
 
 at-end-requires : tie.Need-at-end-requires
 at-end-requires c κs = tt
@@ -54,7 +48,7 @@ returns : tie.Need-returns
 returns c = (
   keeps-refused (c .refused .ensures),
   λ l.
-      let a = c .before .before .before .before .before .before .before .before .before .before .args in
+      let a = c .before .before .before .before .before .before .before .before .args in
       too-long (sweepOf (view (a .g)) (marked (a .gone)) (a .tick)) (recorded (c .before .before)) (a .records .now) l
       (omega (arith, c .before .before .sweep-len .ensures, c .before .if1 .taken)) (c .refused .ensures),
 )
@@ -76,8 +70,8 @@ unfolding sweepOf
 returns-2 c = (
   keeps-answer _ (c .swept .result) (c .swept .ensures .1) tt,
   λ l.
-      let a = c .before .before .before .before .before .before .before .before .before .before .before .before .before .before .before .args in
-      let n = c .before .before .before .before .before .before .before .before .before .before .before .before .before .before .before .pre in
+      let a = c .before .before .before .before .before .before .before .before .before .before .before .before .before .args in
+      let n = c .before .before .before .before .before .before .before .before .before .before .before .before .before .pre in
       let r = c .swept .ensures in
       stored (sweepOf (view (a .g)) (marked (a .gone)) (a .tick)) (recorded (c .before .before .before .before .before .before .before)) (a .records .now) l (view (a .g)) (c .swept .result) refl
       (omega (arith, c .before .before .before .before .before .before .before .sweep-len .ensures, c .before .before .before .before .before .before .if1 .left))
