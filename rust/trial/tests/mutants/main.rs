@@ -50,6 +50,12 @@ fn caught_on_both_sides(how: &'static dyn Mutation, check: Check) -> Report {
     report
 }
 
+/// Altered on one side, and then on both.
+fn caught_on_each(how: &'static dyn Mutation, check: Check) {
+    caught(how);
+    caught_on_both_sides(how, check);
+}
+
 #[test]
 fn nothing_is_found_where_nothing_is_altered() {
     mutate(&Unchanged);

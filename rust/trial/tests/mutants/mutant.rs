@@ -6,30 +6,24 @@ use plain::Group;
 use trial::data::{Answer, Beat, Id, Member, Reply, Topic, PLACES};
 use trial::Coordinator;
 
+/// What is lent to a heartbeat.
+pub struct Lent<'a> {
+    pub records: &'a mut [u8],
+    pub list: &'a mut [u16],
+}
+
 /// What is altered; everything else passes unchanged.
 pub trait Mutation: Sync {
-    fn heartbeat(
-        &self,
-        mutant: &mut Mutant,
-        beat: &Beat,
-        records: &mut [u8],
-        list: &mut [u16],
-    ) -> Reply {
-        Coordinator::heartbeat(&mut mutant.group, beat, records, list)
+    fn heartbeat(&self, mutant: &mut Mutant, beat: &Beat, lent: &mut Lent) -> Reply {
+        mutant.take(beat, lent)
     }
 
     fn sweep(&self, mutant: &mut Mutant, tick: u32, records: &mut [u8]) -> Reply {
         Coordinator::sweep(&mut mutant.group, tick, records)
     }
 
-    fn install(
-        &self,
-        mutant: &mut Mutant,
-        epoch: i32,
-        entries: &[u8],
-        records: &mut [u8],
-    ) -> Reply {
-        Coordinator::install(&mut mutant.group, epoch, entries, records)
+    fn install(&self, mutant: &mut Mutant, epoch: i32, entries: &[u8], buffer: &mut [u8]) -> Reply {
+        Coordinator::install(&mut mutant.group, epoch, entries, buffer)
     }
 
     fn epoch(&self, mutant: &Mutant) -> i32 {
@@ -77,6 +71,11 @@ impl Mutant {
             target: vec![None; 1_024],
         }
     }
+
+    /// The heartbeat as the plain coordinator takes it.
+    pub fn take(&mut self, beat: &Beat, lent: &mut Lent) -> Reply {
+        Coordinator::heartbeat(&mut self.group, beat, lent.records, lent.list)
+    }
 }
 
 impl PartialEq for Mutant {
@@ -96,7 +95,8 @@ impl Coordinator for Mutant {
     }
 
     fn heartbeat(&mut self, beat: &Beat, records: &mut [u8], list: &mut [u16]) -> Reply {
-        self.mutation.heartbeat(self, beat, records, list)
+        self.mutation
+            .heartbeat(self, beat, &mut Lent { records, list })
     }
 
     fn sweep(&mut self, tick: u32, records: &mut [u8]) -> Reply {

@@ -5,23 +5,17 @@ use trial::trial::Check;
 use trial::Coordinator;
 
 use super::mutant::*;
-use super::{caught, caught_on_both_sides};
+use super::{caught, caught_on_both_sides, caught_on_each};
 
 /// Compares ticks as plain numbers.
 struct PlainTicks;
 
 impl Mutation for PlainTicks {
-    fn heartbeat(
-        &self,
-        mutant: &mut Mutant,
-        beat: &Beat,
-        records: &mut [u8],
-        list: &mut [u16],
-    ) -> Reply {
+    fn heartbeat(&self, mutant: &mut Mutant, beat: &Beat, lent: &mut Lent) -> Reply {
         if beat.tick < mutant.group.last_tick() {
             return refused(1001);
         }
-        Coordinator::heartbeat(&mut mutant.group, beat, records, list)
+        mutant.take(beat, lent)
     }
 
     fn sweep(&self, mutant: &mut Mutant, tick: u32, records: &mut [u8]) -> Reply {
@@ -34,8 +28,7 @@ impl Mutation for PlainTicks {
 
 #[test]
 fn ticks_compared_as_plain_numbers() {
-    caught(&PlainTicks);
-    caught_on_both_sides(&PlainTicks, Check::Table);
+    caught_on_each(&PlainTicks, Check::Table);
 }
 
 /// Raises G once for each member swept.
@@ -57,8 +50,7 @@ impl Mutation for RaisesForEach {
 
 #[test]
 fn g_raised_for_each_member_swept() {
-    caught(&RaisesForEach);
-    caught_on_both_sides(&RaisesForEach, Check::Records);
+    caught_on_each(&RaisesForEach, Check::Records);
 }
 
 /// Makes up the number swept.
@@ -76,22 +68,15 @@ impl Mutation for CountsOneMore {
 
 #[test]
 fn a_number_swept_that_is_made_up() {
-    caught(&CountsOneMore);
-    caught_on_both_sides(&CountsOneMore, Check::Change);
+    caught_on_each(&CountsOneMore, Check::Change);
 }
 
 /// Sets the group's last tick although the heartbeat is refused.
 struct TicksAtRefusal;
 
 impl Mutation for TicksAtRefusal {
-    fn heartbeat(
-        &self,
-        mutant: &mut Mutant,
-        beat: &Beat,
-        records: &mut [u8],
-        list: &mut [u16],
-    ) -> Reply {
-        let reply = Coordinator::heartbeat(&mut mutant.group, beat, records, list);
+    fn heartbeat(&self, mutant: &mut Mutant, beat: &Beat, lent: &mut Lent) -> Reply {
+        let reply = mutant.take(beat, lent);
         mutant.tick = is_refused(reply, 110).then_some(beat.tick);
         reply
     }
@@ -103,22 +88,15 @@ impl Mutation for TicksAtRefusal {
 
 #[test]
 fn a_tick_set_at_a_refusal() {
-    caught(&TicksAtRefusal);
-    caught_on_both_sides(&TicksAtRefusal, Check::Change);
+    caught_on_each(&TicksAtRefusal, Check::Change);
 }
 
 /// Changes at a refusal what shows only where the group handed back is compared as a value.
 struct ChangesHiddenAtRefusal;
 
 impl Mutation for ChangesHiddenAtRefusal {
-    fn install(
-        &self,
-        mutant: &mut Mutant,
-        epoch: i32,
-        entries: &[u8],
-        records: &mut [u8],
-    ) -> Reply {
-        let reply = Coordinator::install(&mut mutant.group, epoch, entries, records);
+    fn install(&self, mutant: &mut Mutant, epoch: i32, entries: &[u8], buffer: &mut [u8]) -> Reply {
+        let reply = Coordinator::install(&mut mutant.group, epoch, entries, buffer);
         mutant.number += i32::from(is_refused(reply, 1005));
         reply
     }

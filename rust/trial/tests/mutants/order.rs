@@ -5,20 +5,14 @@ use trial::trial::Check;
 use trial::Coordinator;
 
 use super::mutant::*;
-use super::{caught, caught_on_both_sides};
+use super::{caught, caught_on_each};
 
 /// 25 before the first row 42.
 struct UnknownFirst;
 
 impl Mutation for UnknownFirst {
-    fn heartbeat(
-        &self,
-        mutant: &mut Mutant,
-        beat: &Beat,
-        records: &mut [u8],
-        list: &mut [u16],
-    ) -> Reply {
-        let reply = Coordinator::heartbeat(&mut mutant.group, beat, records, list);
+    fn heartbeat(&self, mutant: &mut Mutant, beat: &Beat, lent: &mut Lent) -> Reply {
+        let reply = mutant.take(beat, lent);
         let is_swapped =
             is_refused(reply, 42) && beat.epoch > 0 && find(&mutant.group, &beat.id).is_none();
         if is_swapped {
@@ -30,22 +24,15 @@ impl Mutation for UnknownFirst {
 
 #[test]
 fn unknown_before_malformed() {
-    caught(&UnknownFirst);
-    caught_on_both_sides(&UnknownFirst, Check::Table);
+    caught_on_each(&UnknownFirst, Check::Table);
 }
 
 /// 42 again before 110.
 struct NotHeldFirst;
 
 impl Mutation for NotHeldFirst {
-    fn heartbeat(
-        &self,
-        mutant: &mut Mutant,
-        beat: &Beat,
-        records: &mut [u8],
-        list: &mut [u16],
-    ) -> Reply {
-        let reply = Coordinator::heartbeat(&mut mutant.group, beat, records, list);
+    fn heartbeat(&self, mutant: &mut Mutant, beat: &Beat, lent: &mut Lent) -> Reply {
+        let reply = mutant.take(beat, lent);
         if let (true, Some((_, member))) = (is_refused(reply, 110), find(&mutant.group, &beat.id)) {
             let mut owned = beat.owned.iter().flatten();
             if owned.any(|&slot| !member.holds(slot)) {
@@ -58,22 +45,15 @@ impl Mutation for NotHeldFirst {
 
 #[test]
 fn not_held_before_fenced() {
-    caught(&NotHeldFirst);
-    caught_on_both_sides(&NotHeldFirst, Check::Table);
+    caught_on_each(&NotHeldFirst, Check::Table);
 }
 
 /// 1002 before 81.
 struct EpochEndFirst;
 
 impl Mutation for EpochEndFirst {
-    fn heartbeat(
-        &self,
-        mutant: &mut Mutant,
-        beat: &Beat,
-        records: &mut [u8],
-        list: &mut [u16],
-    ) -> Reply {
-        let reply = Coordinator::heartbeat(&mut mutant.group, beat, records, list);
+    fn heartbeat(&self, mutant: &mut Mutant, beat: &Beat, lent: &mut Lent) -> Reply {
+        let reply = mutant.take(beat, lent);
         if is_refused(reply, 81) && mutant.group.epoch() == i32::MAX {
             return refused(1002);
         }
@@ -92,14 +72,8 @@ fn the_end_of_epochs_before_a_full_group() {
 struct AlreadyFirst;
 
 impl Mutation for AlreadyFirst {
-    fn install(
-        &self,
-        mutant: &mut Mutant,
-        epoch: i32,
-        entries: &[u8],
-        records: &mut [u8],
-    ) -> Reply {
-        let reply = Coordinator::install(&mut mutant.group, epoch, entries, records);
+    fn install(&self, mutant: &mut Mutant, epoch: i32, entries: &[u8], buffer: &mut [u8]) -> Reply {
+        let reply = Coordinator::install(&mut mutant.group, epoch, entries, buffer);
         if is_refused(reply, 1004) && mutant.group.epoch() == mutant.group.target_epoch() {
             return refused(1005);
         }
@@ -109,6 +83,5 @@ impl Mutation for AlreadyFirst {
 
 #[test]
 fn already_before_stale() {
-    caught(&AlreadyFirst);
-    caught_on_both_sides(&AlreadyFirst, Check::Table);
+    caught_on_each(&AlreadyFirst, Check::Table);
 }

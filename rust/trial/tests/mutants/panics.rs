@@ -2,7 +2,6 @@
 
 use trial::data::{Beat, Reply};
 use trial::trial::Check;
-use trial::Coordinator;
 
 use super::mutant::*;
 use super::{caught, caught_on_both_sides};
@@ -11,16 +10,10 @@ use super::{caught, caught_on_both_sides};
 struct PanicsAtRejoin;
 
 impl Mutation for PanicsAtRejoin {
-    fn heartbeat(
-        &self,
-        mutant: &mut Mutant,
-        beat: &Beat,
-        records: &mut [u8],
-        list: &mut [u16],
-    ) -> Reply {
+    fn heartbeat(&self, mutant: &mut Mutant, beat: &Beat, lent: &mut Lent) -> Reply {
         let is_member = find(&mutant.group, &beat.id).is_some();
         assert!(beat.epoch != 0 || !is_member, "a member joins again");
-        Coordinator::heartbeat(&mut mutant.group, beat, records, list)
+        mutant.take(beat, lent)
     }
 }
 

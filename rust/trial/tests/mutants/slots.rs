@@ -5,44 +5,31 @@ use trial::trial::Check;
 use trial::Coordinator;
 
 use super::mutant::*;
-use super::{caught, caught_on_both_sides};
+use super::{caught, caught_on_each};
 
 /// Frees P because a heartbeat without a list came in.
 struct FreesWithoutList;
 
 impl Mutation for FreesWithoutList {
-    fn heartbeat(
-        &self,
-        mutant: &mut Mutant,
-        beat: &Beat,
-        records: &mut [u8],
-        list: &mut [u16],
-    ) -> Reply {
+    fn heartbeat(&self, mutant: &mut Mutant, beat: &Beat, lent: &mut Lent) -> Reply {
         let mut beat = beat.clone();
         if let (None, Some((_, member))) = (&beat.owned, sender(&mutant.group, &beat)) {
             beat.owned = Some(member.assigned);
         }
-        Coordinator::heartbeat(&mut mutant.group, &beat, records, list)
+        mutant.take(&beat, lent)
     }
 }
 
 #[test]
 fn p_freed_without_a_list() {
-    caught(&FreesWithoutList);
-    caught_on_both_sides(&FreesWithoutList, Check::Ledger);
+    caught_on_each(&FreesWithoutList, Check::Ledger);
 }
 
 /// Frees P although the list still has a part of it.
 struct FreesPartlyListed;
 
 impl Mutation for FreesPartlyListed {
-    fn heartbeat(
-        &self,
-        mutant: &mut Mutant,
-        beat: &Beat,
-        records: &mut [u8],
-        list: &mut [u16],
-    ) -> Reply {
+    fn heartbeat(&self, mutant: &mut Mutant, beat: &Beat, lent: &mut Lent) -> Reply {
         let mut beat = beat.clone();
         let sender = sender(&mutant.group, &beat);
         if let (Some(owned), Some((_, member))) = (&mut beat.owned, sender) {
@@ -51,30 +38,23 @@ impl Mutation for FreesPartlyListed {
                 owned.retain(|slot| !member.revoking.contains(slot));
             }
         }
-        Coordinator::heartbeat(&mut mutant.group, &beat, records, list)
+        mutant.take(&beat, lent)
     }
 }
 
 #[test]
 fn p_freed_while_a_part_of_it_is_listed() {
-    caught(&FreesPartlyListed);
-    caught_on_both_sides(&FreesPartlyListed, Check::Ledger);
+    caught_on_each(&FreesPartlyListed, Check::Ledger);
 }
 
 /// Tells a member all of M at once.
 struct HandsOutWholeTarget;
 
 impl Mutation for HandsOutWholeTarget {
-    fn heartbeat(
-        &self,
-        mutant: &mut Mutant,
-        beat: &Beat,
-        records: &mut [u8],
-        list: &mut [u16],
-    ) -> Reply {
-        let reply = Coordinator::heartbeat(&mut mutant.group, beat, records, list);
+    fn heartbeat(&self, mutant: &mut Mutant, beat: &Beat, lent: &mut Lent) -> Reply {
+        let reply = mutant.take(beat, lent);
         match find(&mutant.group, &beat.id) {
-            Some((place, _)) => tell(reply, &target(&mutant.group, place), list),
+            Some((place, _)) => tell(reply, &target(&mutant.group, place), lent.list),
             None => reply,
         }
     }
@@ -82,8 +62,7 @@ impl Mutation for HandsOutWholeTarget {
 
 #[test]
 fn the_whole_target_handed_out() {
-    caught(&HandsOutWholeTarget);
-    caught_on_both_sides(&HandsOutWholeTarget, Check::Ledger);
+    caught_on_each(&HandsOutWholeTarget, Check::Ledger);
 }
 
 /// Lets a new member at an old place find the old target: of a place whose member left, the last
@@ -91,16 +70,10 @@ fn the_whole_target_handed_out() {
 struct KeepsOldTarget;
 
 impl Mutation for KeepsOldTarget {
-    fn heartbeat(
-        &self,
-        mutant: &mut Mutant,
-        beat: &Beat,
-        records: &mut [u8],
-        list: &mut [u16],
-    ) -> Reply {
+    fn heartbeat(&self, mutant: &mut Mutant, beat: &Beat, lent: &mut Lent) -> Reply {
         let place_before = find(&mutant.group, &beat.id).map(|(place, _)| place);
         let targets = place_before.map(|place| (place, target(&mutant.group, place)));
-        let reply = Coordinator::heartbeat(&mut mutant.group, beat, records, list);
+        let reply = mutant.take(beat, lent);
         match (reply.answer, targets) {
             (Answer::Left, Some((place, slots))) => {
                 for slot in slots {
@@ -119,7 +92,7 @@ impl Mutation for KeepsOldTarget {
                 };
                 if mutant.target.contains(&Some(place)) {
                     let slots: Vec<u16> = slots.filter(is_told).collect();
-                    tell(reply, &slots, list)
+                    tell(reply, &slots, lent.list)
                 } else {
                     reply
                 }
@@ -128,14 +101,8 @@ impl Mutation for KeepsOldTarget {
         }
     }
 
-    fn install(
-        &self,
-        mutant: &mut Mutant,
-        epoch: i32,
-        entries: &[u8],
-        records: &mut [u8],
-    ) -> Reply {
-        let reply = Coordinator::install(&mut mutant.group, epoch, entries, records);
+    fn install(&self, mutant: &mut Mutant, epoch: i32, entries: &[u8], buffer: &mut [u8]) -> Reply {
+        let reply = Coordinator::install(&mut mutant.group, epoch, entries, buffer);
         if !reply.answer.is_refusal() {
             mutant.target.fill(None);
         }
@@ -155,13 +122,7 @@ fn an_old_target_found_by_a_new_member() {
 struct HandsOutNothing;
 
 impl Mutation for HandsOutNothing {
-    fn install(
-        &self,
-        mutant: &mut Mutant,
-        epoch: i32,
-        entries: &[u8],
-        records: &mut [u8],
-    ) -> Reply {
+    fn install(&self, mutant: &mut Mutant, epoch: i32, entries: &[u8], buffer: &mut [u8]) -> Reply {
         let nothing = vec![255; 1_024];
         let reply = Coordinator::install(
             &mut mutant.group.clone(),
@@ -172,12 +133,11 @@ impl Mutation for HandsOutNothing {
         if reply.answer.is_refusal() {
             return reply;
         }
-        Coordinator::install(&mut mutant.group, epoch, &nothing, records)
+        Coordinator::install(&mut mutant.group, epoch, &nothing, buffer)
     }
 }
 
 #[test]
 fn no_slot_ever_handed_out() {
-    caught(&HandsOutNothing);
-    caught_on_both_sides(&HandsOutNothing, Check::Rounds);
+    caught_on_each(&HandsOutNothing, Check::Rounds);
 }
