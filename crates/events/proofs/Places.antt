@@ -14,6 +14,7 @@ use borrow.Author.Tests.{eq-eqb, ne-eqb}
 use Rattle.rules.specs.Basics.{if_then_else_, concatMap, upTo, keep}
 use Rattle.rules.specs.Constants.{maxMembers}
 use Rattle.rules.specs.Records.{Record, allBytes}
+use Rattle.slots.proofs.Selecting.{select-in, select-out, select-ext}
 use Rattle.records.proofs.Lists.{all-append, all-none}
 
 -- the places from i on
@@ -36,12 +37,10 @@ pickedFrom f i = keep f (placesFrom i)
 
 module _ (f : ℕ → Bool) (i : ℕ) where
   pub picked-in : i < maxMembers → f i ≡ true → pickedFrom f i ≡ i ∷ pickedFrom f (i + 1)
-  unfolding keep
-  picked-in h t = ap (keep f) (places-next i h) ∙ rw t
+  picked-in h t = select-in f i maxMembers h t
 
   pub picked-out : i < maxMembers → f i ≡ false → pickedFrom f i ≡ pickedFrom f (i + 1)
-  unfolding keep
-  picked-out h t = ap (keep f) (places-next i h) ∙ rw t
+  picked-out h t = select-out f i maxMembers h t
 
   pub picked-end : maxMembers ≤ i → pickedFrom f i ≡ []
   unfolding keep
@@ -49,11 +48,7 @@ module _ (f : ℕ → Bool) (i : ℕ) where
 
 -- tests that agree on the places pick the same, and what is made of the places picked is the same
 pub keep-same : (f h : ℕ → Bool) (n k : ℕ) → ((p : ℕ) → p < n + k → f p ≡ h p) → keep f (upTo n k) ≡ keep h (upTo n k)
-unfolding keep upTo
-keep-same f h n zero e = refl
-keep-same f h n (suc k) e =
-    let rest = keep-same f h (suc n) k (λ p q. e p (omega arith)) in
-    rw (e n (omega arith), rest)
+keep-same f h n k e = select-ext f h n k (λ p _ q. e p q)
 
 pub concat-same : {A : Type 0} (f : ℕ → Bool) (rs ss : ℕ → List A) (n k : ℕ) → ((p : ℕ) → p < n + k → rs p ≡ ss p) → concatMap rs (keep f (upTo n k)) ≡ concatMap ss (keep f (upTo n k))
 unfolding keep upTo

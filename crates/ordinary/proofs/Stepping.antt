@@ -16,7 +16,7 @@ use Rattle.rules.specs.Group.{SlotState, setA, setP, raised}
 use Rattle.rules.specs.Refusals.{newSubscription, newTimeout, resubscribes}
 use Rattle.rules.specs.Effects.{waits, strays, advanced, slotsAfter, revokes, epochAfter, memberAfter, updates, moves, currentOf, currentBefore, currentAfter}
 use Rattle.rules.specs.declared.Place.{Place}
-use Rattle.slots.specs.Set.{slotsOf}
+use Rattle.slots.specs.Set.{slotsOf, wordCount}
 use Rattle.slots.proofs.Words.{has-none}
 use Rattle.records.specs.Views.{viewCurrent}
 use Rattle.records.proofs.Differences.{slots-none}
@@ -38,7 +38,7 @@ use Rattle.ordinary.proofs.Freeing.{none-revoking, stays}
 use Rattle.ordinary.specs.Plans.{viewSender, storedSubscription, storedTimeout, steppedBy, memberNext, PlanIs}
 
 no-slots : slotsOf (noSlots .words) ≡ []
-no-slots = slots-none (noSlots .words) (has-none (noSlots .words) (λ k h. getD-replicate 16 k 0 0 h))
+no-slots = slots-none (noSlots .words) (has-none (noSlots .words) (λ k h. getD-replicate wordCount k 0 0 h))
 
 -- ---- the member after the steps, by the decisions that the step made
 

@@ -9,7 +9,7 @@ use lib.ListN.{length}
 use Rattle.rules.specs.Basics.{any, same}
 use Rattle.rules.specs.Constants.{slotCount}
 use Rattle.rules.proofs.Lists.{same-refl, same-eq}
-use Rattle.slots.specs.Set.{has, slotsOf, TellsSubset}
+use Rattle.slots.specs.Set.{has, slotsOf, TellsSubset, wordCount}
 use Rattle.slots.proofs.Words.{in-range}
 use Rattle.slots.proofs.Selecting.{slots-are, slots-have}
 
@@ -35,10 +35,10 @@ alike a b h k =
 
 module _ (a b : List ℕ) (x : Bool) (tells : TellsSubset a b x) where
   -- a is not part of b
-  pub first-differs : length a ≡ 16 → x ≡ false → false ≡ same (slotsOf a) (slotsOf b)
+  pub first-differs : length a ≡ wordCount → x ≡ false → false ≡ same (slotsOf a) (slotsOf b)
   first-differs la z = let w = tells .1 z in sym (unlike a b (w .0) (in-range a (w .0) la (w .1)) (λ e. true≢false (sym (w .1) ∙ e ∙ w .2)))
 
   -- a is part of b: then it is whether b is part of a
-  pub second-decides : length b ≡ 16 → x ≡ true → (y : Bool) → TellsSubset b a y → y ≡ same (slotsOf a) (slotsOf b)
+  pub second-decides : length b ≡ wordCount → x ≡ true → (y : Bool) → TellsSubset b a y → y ≡ same (slotsOf a) (slotsOf b)
   second-decides lb z true u = sym (alike a b (tells .0 z) (u .0 refl))
   second-decides lb z false u = let w = u .1 refl in sym (unlike a b (w .0) (in-range b (w .0) lb (w .1)) (λ e. true≢false (sym (w .1) ∙ sym e ∙ w .2)))

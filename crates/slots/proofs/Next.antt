@@ -14,7 +14,7 @@ use lib.Pow.{shr-shr}
 use lib.Count.{trailingZeros, under}
 use borrow.Author.Tests.{eqb-true, eqb-false}
 use Rattle.rules.specs.Constants.{slotCount}
-use Rattle.slots.specs.Set.{bit, has, NextFrom, TellsEmpty}
+use Rattle.slots.specs.Set.{bit, has, NextFrom, TellsEmpty, wordCount}
 use Rattle.slots.proofs.Bits.{bit-suc, bit-low, bit-zero}
 use Rattle.slots.proofs.Words.{has-past}
 
@@ -125,7 +125,7 @@ pub none-one : (f : ℕ → Bool) (i : ℕ) → f i ≡ false → (s : ℕ) → 
 none-one f i e s p q = let same : s ≡ i = omega arith in ap f same ∙ e
 
 -- a set whose lowest slot is past the end has none
-pub none-next : (ws : List ℕ) (r : ℕ) → length ws ≡ 16 → NextFrom ws 0 r → TellsEmpty ws (eqb r slotCount)
+pub none-next : (ws : List ℕ) (r : ℕ) → length ws ≡ wordCount → NextFrom ws 0 r → TellsEmpty ws (eqb r slotCount)
 none-next ws r l n = (λ e s. past e s (decLt s slotCount), λ e. (r, n .2 (below (eqb-false r slotCount e)) .1))
   where
     past : eqb r slotCount ≡ true → (s : ℕ) → Dec (s < slotCount) → has ws s ≡ false

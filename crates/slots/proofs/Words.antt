@@ -13,7 +13,7 @@ use lib.Seq.{getD-set-same, getD-set-other}
 use lib.Pow.{shl-exact}
 use lib.Bits.{bitOr}
 use borrow.Author.Tests.{eq-eqb, ne-eqb}
-use Rattle.slots.specs.Set.{bit, has}
+use Rattle.slots.specs.Set.{bit, has, wordCount}
 use Rattle.rules.specs.Constants.{slotCount}
 use Rattle.slots.proofs.Bits.{bit-or, bit-one, bit-zero}
 use Rattle.slots.proofs.Each.{Each}
@@ -64,17 +64,17 @@ has-none ws h s = go (decLt (s / 64) (length ws))
 -- word by word: an operation that is g on the bits of a word and of a machine word is g on sets
 module _ (op : ℕ → ℕ → ℕ) (g : Bool → Bool → Bool) (none : g false false ≡ false)
     (bits : (x y i : ℕ) → y < 2 ^ 64 → i < 64 → bit (op x y) i ≡ g (bit x i) (bit y i)) where
-  pub wordwise : (a b r : List ℕ) → length a ≡ 16 → length b ≡ 16 → ((k : ℕ) → getD b k 0 < 2 ^ 64) → (i : ℕ) → 16 ≤ i
+  pub wordwise : (a b r : List ℕ) → length a ≡ wordCount → length b ≡ wordCount → ((k : ℕ) → getD b k 0 < 2 ^ 64) → (i : ℕ) → wordCount ≤ i
       → Each (λ k x. op x (getD b k 0)) a r i → (s : ℕ) → has r s ≡ g (has a s) (has b s)
-  wordwise a b r la lb fits i h e s = go (decLt (s / 64) 16)
+  wordwise a b r la lb fits i h e s = go (decLt (s / 64) wordCount)
     where
-      go : Dec (s / 64 < 16) → has r s ≡ g (has a s) (has b s)
+      go : Dec (s / 64 < wordCount) → has r s ≡ g (has a s) (has b s)
       go (yes p) = rw (e .done (s / 64) (omega arith)) (bits _ _ (s % 64) (fits (s / 64)) (mod-lt s (lit< tt)))
       go (no q) =
           has-past r s (omega (arith, e .len)) ∙ sym (ap₂ g (has-past a s (omega arith)) (has-past b s (omega arith)) ∙ none)
 
 -- the slots of sixteen words
-pub in-range : (ws : List ℕ) (s : ℕ) → length ws ≡ 16 → has ws s ≡ true → s < slotCount
+pub in-range : (ws : List ℕ) (s : ℕ) → length ws ≡ wordCount → has ws s ≡ true → s < slotCount
 in-range ws s l e = go (decLt s slotCount)
   where
     go : Dec (s < slotCount) → s < slotCount

@@ -8,6 +8,10 @@ use lib.ListN.{getD}
 use Rattle.rules.specs.Basics.{keep, upTo}
 use Rattle.rules.specs.Constants.{slotCount}
 
+-- a set has so many words
+abbrev pub wordCount : ℕ
+wordCount = 16
+
 -- bit i of the word w
 abbrev pub bit : ℕ → ℕ → Bool
 bit w i = eqb (w / 2 ^ i % 2) 1

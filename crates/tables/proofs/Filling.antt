@@ -8,7 +8,7 @@ use lib.Dec.{eqb}
 use lib.ListN.{length, getD, set, replicate, getD-replicate}
 use Rattle.rules.specs.Constants.{slotCount, noPlace}
 use Rattle.rules.specs.Group.{SlotState, freeSlot, assigned, revoking, targeted}
-use Rattle.slots.specs.Set.{bit, has}
+use Rattle.slots.specs.Set.{bit, has, wordCount}
 use Rattle.slots.proofs.Words.{has-mark, has-none}
 use Rattle.slots.proofs.Gathering.{Gather, gather-none, gather-more, gather-skip}
 use Rattle.tables.specs.View.{viewLists}
@@ -18,7 +18,7 @@ use Rattle.tables.proofs.Nearness.{far-a, far-q, far-m, far-c}
 use Rattle.tables.proofs.Viewing.{view-slot}
 
 -- one slot is marked, and those up to j are stepped over
-fill-to : (f : ℕ → Bool) (ws : List ℕ) (i v j : ℕ) (on : Bool) → length ws ≡ 16 → Gather f (has ws) i → i < slotCount → on ≡ f i
+fill-to : (f : ℕ → Bool) (ws : List ℕ) (i v j : ℕ) (on : Bool) → length ws ≡ wordCount → Gather f (has ws) i → i < slotCount → on ≡ f i
     → ((k : ℕ) → bit v k ≡ (bit (getD ws (i / 64) 0) k || (eqb k (i % 64) && on)))
     → i + 1 ≤ j → ((s : ℕ) → i + 1 ≤ s → s < j → f s ≡ false) → Gather f (has (set ws (i / 64) v)) j
 fill-to f ws i v j on n e h p q l z = gather-skip j (gather-more _ e p (has-mark ws i v on (omega arith) q)) l z
@@ -46,7 +46,7 @@ module _ (p : ℕ) (ts hs : List ℕ) (ws : List Bool) where
   Marks l i v on = (k : ℕ) → bit v k ≡ (bit (getD l (i / 64) 0) k || (eqb k (i % 64) && on))
 
   pub four-more : {a q m c : List ℕ} {i : ℕ} {oa oq om oc : Bool} (va vq vm vc j : ℕ) → Four a q m c i
-      → length a ≡ 16 → length q ≡ 16 → length m ≡ 16 → length c ≡ 16 → i < slotCount
+      → length a ≡ wordCount → length q ≡ wordCount → length m ≡ wordCount → length c ≡ wordCount → i < slotCount
       → oa ≡ (eqb (getD hs i 0) p && not (getD ws i false)) → Marks a i va oa
       → oq ≡ (eqb (getD hs i 0) p && getD ws i false) → Marks q i vq oq
       → om ≡ eqb (getD ts i 0) p → Marks m i vm om
@@ -62,8 +62,8 @@ module _ (p : ℕ) (ts hs : List ℕ) (ws : List Bool) where
   }
 
 -- no word is set yet
-pub none-yet : (s : ℕ) → has (replicate 16 0) s ≡ false
-none-yet = has-none (replicate 16 0) (λ k h. getD-replicate 16 k 0 0 h)
+pub none-yet : (s : ℕ) → has (replicate wordCount 0) s ≡ false
+none-yet = has-none (replicate wordCount 0) (λ k h. getD-replicate wordCount k 0 0 h)
 
 -- at the end the sets are those that a pass gathers
 module _ (p : ℕ) (ts hs : List ℕ) (ws : List Bool) (nt : length ts ≡ slotCount) (nh : length hs ≡ slotCount) (nw : length ws ≡ slotCount) where

@@ -10,7 +10,7 @@ use lib.ListN.{length, getD}
 use Rattle.rules.specs.Basics.{if_then_else_, any, indices, keep, upTo}
 use Rattle.rules.specs.Constants.{slotCount}
 use Rattle.rules.specs.Group.{SlotState, freeSlot, assigned, revoking, targeted, setA, setP, setM}
-use Rattle.slots.specs.Set.{has, select, slotsOf, TellsEmpty}
+use Rattle.slots.specs.Set.{has, select, slotsOf, TellsEmpty, wordCount}
 use Rattle.slots.specs.declared.SlotSet.{SlotSet}
 use Rattle.slots.proofs.Selecting.{slots-are}
 use Rattle.slots.proofs.Words.{in-range}
@@ -66,7 +66,7 @@ module _ (f : ℕ → Bool) where
       go false p = refl
 
   -- as a test for no slot tells it of a set that has these slots
-  pub some-told : (ws : List ℕ) → length ws ≡ 16 → ((s : ℕ) → has ws s ≡ f s) → (e : Bool) → TellsEmpty ws e → someSlot f ≡ not e
+  pub some-told : (ws : List ℕ) → length ws ≡ wordCount → ((s : ℕ) → has ws s ≡ f s) → (e : Bool) → TellsEmpty ws e → someSlot f ≡ not e
   some-told ws l is true t = none-by (λ s h. sym (is s) ∙ t .0 refl s)
   some-told ws l is false t = let w = t .1 refl in some-by (w .0) (in-range ws (w .0) l (w .1)) (sym (is (w .0)) ∙ w .1)
 
@@ -106,7 +106,7 @@ module _ (t : SlotState → Bool) (vs : List SlotState) (len : length vs ≡ slo
       zero-plus : (n : ℕ) → 0 + n ≡ n
       zero-plus n = omega arith
 
-  pub picks-any : length (a .words) ≡ 16 → (e : Bool) → TellsEmpty (a .words) e → any t vs ≡ not e
+  pub picks-any : length (a .words) ≡ wordCount → (e : Bool) → TellsEmpty (a .words) e → any t vs ≡ not e
   picks-any la e g = some-listed (has (a .words)) t freeSlot vs len is ∙ some-told (has (a .words)) (a .words) la (λ s. refl) e g
 
 -- the sets of a place, as the rules list them

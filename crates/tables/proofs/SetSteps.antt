@@ -5,7 +5,7 @@ use mathlib.Core.Bool.{Bool, true, false, not, _&&_, _||_}
 use mathlib.Core.List.{List}
 use lib.ListN.{length}
 use Rattle.rules.specs.Basics.{any}
-use Rattle.slots.specs.Set.{has, TellsEmpty}
+use Rattle.slots.specs.Set.{has, TellsEmpty, wordCount}
 use Rattle.slots.specs.declared.SlotSet.{SlotSet}
 use Rattle.tables.specs.Advances.{ownedOf, someSlot, freesSet, waitsOn, strayIn, freeIn, assignedAfter, revokingAfter, AdvancesSets}
 use Rattle.tables.specs.declared.gathering.PlaceSets.{PlaceSets}
@@ -23,7 +23,7 @@ not-freed true false e = refl
 not-freed false true e = e
 not-freed false false e = refl
 
-module _ (a : PlaceSets) (given : Bool) (l : List ℕ) (lp : length (a .revoking .words) ≡ 16) (nil fr : Bool) (tells : TellsEmpty (a .revoking .words) nil)
+module _ (a : PlaceSets) (given : Bool) (l : List ℕ) (lp : length (a .revoking .words) ≡ wordCount) (nil fr : Bool) (tells : TellsEmpty (a .revoking .words) nil)
     (hf : fr ≡ (given && (not nil && not (any (has (a .revoking .words)) l)))) where
   some-revoking : someSlot (has (a .revoking .words)) ≡ not nil
   some-revoking = some-told (has (a .revoking .words)) (a .revoking .words) lp (λ s. refl) nil tells
@@ -55,7 +55,7 @@ module _ (a : PlaceSets) (given : Bool) (l : List ℕ) (lp : length (a .revoking
       }
 
   -- st: the strays
-  module _ (t : (not nil && not fr) ≡ false) (st : SlotSet) (ls : length (st .words) ≡ 16) (hs : (s : ℕ) → has (st .words) s ≡ strayIn a s)
+  module _ (t : (not nil && not fr) ≡ false) (st : SlotSet) (ls : length (st .words) ≡ wordCount) (hs : (s : ℕ) → has (st .words) s ≡ strayIn a s)
       (es : Bool) (no-strays : TellsEmpty (st .words) es) where
     w : waitsOn a (ownedOf given l) ≡ false
     w = waits-so ∙ t
@@ -84,7 +84,7 @@ module _ (a : PlaceSets) (given : Bool) (l : List ℕ) (lp : length (a .revoking
         → ((s : ℕ) → has (k .words) s ≡ (has (a .claimable .words) s || has (d .words) s))
         → ((s : ℕ) → has (r .words) s ≡ (has (a .assigned .words) s || has (k .words) s))
         → ((s : ℕ) → has (q .words) s ≡ false)
-        → length (k .words) ≡ 16 → TellsEmpty (k .words) ek → ch ≡ (fr || not ek)
+        → length (k .words) ≡ wordCount → TellsEmpty (k .words) ek → ch ≡ (fr || not ek)
         → AdvancesSets a (ownedOf given l) (record { assigned = r; revoking = q; waits = false; frees = fr; revokes = false; changed = ch })
     unfolding assignedAfter revokingAfter
     sets-claim z d₁ d k r q ek ch hd₁ hd hk hr hq lk no-claims hch =

@@ -15,7 +15,7 @@ use Rattle.rules.specs.Constants.{slotCount, noPlace}
 use Rattle.rules.specs.Group.{SlotState, freeSlot, assigned, revoking, targeted, setA, setP}
 use Rattle.rules.specs.Effects.{waits, strays, advanced, frees, freed, afterFree, stray, revoked, claimed}
 use Rattle.rules.proofs.Lists.{or-false, and-true, same-refl}
-use Rattle.slots.specs.Set.{has, slotsOf}
+use Rattle.slots.specs.Set.{has, slotsOf, wordCount}
 use Rattle.slots.proofs.Words.{has-past}
 use Rattle.slots.proofs.Comparing.{unlike}
 use Rattle.tables.specs.Gathers.{Picks, Gathers}
@@ -46,7 +46,7 @@ unset true true e f = f
 unset true false e f = e
 unset false y e f = refl
 
-module _ (p : ℕ) (vs : List SlotState) (len : length vs ≡ slotCount) (lt : p < noPlace) (a : PlaceSets) (lp : length (a .revoking .words) ≡ 16)
+module _ (p : ℕ) (vs : List SlotState) (len : length vs ≡ slotCount) (lt : p < noPlace) (a : PlaceSets) (lp : length (a .revoking .words) ≡ wordCount)
     (g : Gathers p vs a) (owned : Option (List ℕ)) where
   n : eqb noPlace p ≡ false
   n = ne-eqb noPlace p (λ e. omega arith)

@@ -14,8 +14,9 @@ use Rattle.group.specs.Transitions.{seatOf, memberRejoined}
 use Rattle.group.specs.declared.member.Member.{Member}
 use Rattle.joining.proofs.joiner_at.Statement.{statement}
 use Rattle.joining.proofs.joiner_at.Tie as tie
+use Rattle.slots.specs.Set.{wordCount}
 
-set-length : (c : tie.After-gather) → length (c .gather .result .target .words) ≡ 16
+set-length : (c : tie.After-gather) → length (c .gather .result .target .words) ≡ wordCount
 set-length c = search needs
 
 view-length : (c : tie.Start) → length (viewTables (c .args .tables)) ≡ slotCount

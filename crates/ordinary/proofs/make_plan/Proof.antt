@@ -12,6 +12,7 @@ use Rattle.tables.proofs.Moving.{written}
 use Rattle.ordinary.proofs.Stepping.{plan-is}
 use Rattle.ordinary.proofs.make_plan.Statement.{statement}
 use Rattle.ordinary.proofs.make_plan.Tie as tie
+use Rattle.slots.specs.Set.{wordCount}
 
 slots-length : (c : tie.Start) → length (viewTables (c .args .g .tables)) ≡ slotCount
 unfolding viewTables
@@ -22,7 +23,7 @@ slots-length c =
     let nw : length (t .waiting) ≡ slotCount = search needs in
     view-slots (t .target) (t .holder) (t .waiting) nt nh nw
 
-revoking-length : (c : tie.After-gather) → length (c .gather .result .revoking .words) ≡ 16
+revoking-length : (c : tie.After-gather) → length (c .gather .result .revoking .words) ≡ wordCount
 revoking-length c = search needs
 
 returns : tie.Need-returns

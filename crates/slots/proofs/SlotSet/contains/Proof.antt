@@ -6,6 +6,7 @@ use borrow.Author.Needs.{needs}
 use Rattle.slots.proofs.Words.{has-past}
 use Rattle.slots.proofs.SlotSet.contains.Statement.{statement}
 use Rattle.slots.proofs.SlotSet.contains.Tie as tie
+use Rattle.slots.specs.Set.{wordCount}
 
 cast-i : tie.Need-cast-i
 cast-i c = omega arith
@@ -28,7 +29,7 @@ returns c = refl
 returns-2 : tie.Need-returns-2
 returns-2 c =
     let a = c .before .args in
-    let l : length (a .t1 .words) ≡ 16 = search needs in
+    let l : length (a .t1 .words) ≡ wordCount = search needs in
     sym (has-past (a .t1 .words) (a .slot .0) (omega arith))
 
 pub contains-spec : {M : Type 1} → statement M

@@ -13,12 +13,13 @@ use Rattle.slots.proofs.Words.{wordwise}
 use borrow.Author.Needs.{needs}
 use Rattle.slots.proofs.SlotSet.difference.Statement.{statement}
 use Rattle.slots.proofs.SlotSet.difference.Tie as tie
+use Rattle.slots.specs.Set.{wordCount}
 
 abbrev Inv-loop : tie.InvT-loop
-Inv-loop other r₀ i₀ r i = (i ≤ 16) × Each (λ k x. bitAnd x ((2 ^ 64 - 1) - getD (other .words) k 0)) (r₀ .words) (r .words) i
+Inv-loop other r₀ i₀ r i = (i ≤ wordCount) × Each (λ k x. bitAnd x ((2 ^ 64 - 1) - getD (other .words) k 0)) (r₀ .words) (r .words) i
 
 abbrev μ-loop : tie.MeasureT-loop
-μ-loop other r₀ i₀ r i = 16 - i
+μ-loop other r₀ i₀ r i = wordCount - i
 
 loop-holds : tie.Need-loop-holds Inv-loop μ-loop
 loop-holds c = (search needs, each-none _ _)
@@ -49,15 +50,15 @@ loop-less c = omega arith
 
 loop-again : tie.Need-loop-again Inv-loop μ-loop
 loop-again c = let l = c .before .before .before .loop in
-    let n : length (c .before .before .before .before .args .self .words) ≡ 16 = search needs in
+    let n : length (c .before .before .before .before .args .self .words) ≡ wordCount = search needs in
     (omega arith, each-more _ (l .inv .1) (omega (arith, l .inv .1 .len)) refl)
 
 returns : tie.Need-returns Inv-loop μ-loop
 returns c =
     let l = c .before .loop in
     let a = c .before .before .args in
-    let na : length (a .self .words) ≡ 16 = search needs in
-    let nb : length (a .t2 .words) ≡ 16 = search needs in
+    let na : length (a .self .words) ≡ wordCount = search needs in
+    let nb : length (a .t2 .words) ≡ wordCount = search needs in
     wordwise (λ x y. bitAnd x ((2 ^ 64 - 1) - y)) (λ x y. x && not y) refl bit-without (a .self .words) (a .t2 .words) (l .r .words) na nb
     (λ k. let f : Fits w64 (getD (a .t2 .words) k 0) = search needs in f .fits) (l .i) (omega arith) (l .inv .1)
 

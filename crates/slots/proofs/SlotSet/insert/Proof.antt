@@ -10,6 +10,7 @@ use Rattle.rules.specs.Constants.{slotCount}
 use Rattle.slots.proofs.Words.{has-mark, bit-put, put-none}
 use Rattle.slots.proofs.SlotSet.insert.Statement.{statement}
 use Rattle.slots.proofs.SlotSet.insert.Tie as tie
+use Rattle.slots.specs.Set.{wordCount}
 
 cast-i : tie.Need-cast-i
 cast-i c = omega arith
@@ -36,7 +37,7 @@ returns : tie.Need-returns
 returns c =
     let a = c .before .before .args in
     let n = a .slot .0 in
-    let l : length (a .self .words) ≡ 16 = search needs in
+    let l : length (a .self .words) ≡ wordCount = search needs in
     has-mark (a .self .words) n _ (ltb n slotCount) (omega arith)
     (bit-put _ (n % 64) (ltb n slotCount) (omega arith) (lt-ltb n slotCount (omega arith)))
 

@@ -5,6 +5,7 @@ use borrow.Author.Needs.{needs}
 use Rattle.slots.proofs.Next.{none-next}
 use Rattle.slots.proofs.SlotSet.is_empty.Statement.{statement}
 use Rattle.slots.proofs.SlotSet.is_empty.Tie as tie
+use Rattle.slots.specs.Set.{wordCount}
 
 lowest-requires : tie.Need-lowest-requires
 lowest-requires c κs = tt
@@ -12,7 +13,7 @@ lowest-requires c κs = tt
 returns : tie.Need-returns
 returns c =
     let ws = c .before .args .self .words in
-    let n : length ws ≡ 16 = search needs in
+    let n : length ws ≡ wordCount = search needs in
     none-next ws (c .lowest .result) n (c .lowest .ensures)
 
 pub is-empty-spec : {M : Type 1} → statement M

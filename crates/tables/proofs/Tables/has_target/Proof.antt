@@ -9,8 +9,9 @@ use Rattle.tables.proofs.Listing.{picks-any}
 use borrow.Author.Needs.{needs}
 use Rattle.tables.proofs.Tables.has_target.Statement.{statement}
 use Rattle.tables.proofs.Tables.has_target.Tie as tie
+use Rattle.slots.specs.Set.{wordCount}
 
-set-length : (c : tie.After-gather) → length (c .gather .result .target .words) ≡ 16
+set-length : (c : tie.After-gather) → length (c .gather .result .target .words) ≡ wordCount
 set-length c = search needs
 
 gather-requires : tie.Need-gather-requires

@@ -7,11 +7,12 @@ use lib.ListN.{length, length-set}
 use Rattle.tables.proofs.Filling.{Four, four-none, four-more, four-all, none-yet}
 use Rattle.tables.proofs.gathering.gather_lists.Statement.{statement}
 use Rattle.tables.proofs.gathering.gather_lists.Tie as tie
+use Rattle.slots.specs.Set.{wordCount}
 
 abbrev Inv-loop : tie.InvT-loop
 Inv-loop target holder waiting p assigned₀ revoking₀ targets₀ claimable₀ s₀ assigned revoking targets claimable s =
-    (s ≤ slotCount) × (length assigned ≡ 16) × (length revoking ≡ 16) × (length targets ≡ 16) ×
-    (length claimable ≡ 16) × Four (p .0) target holder waiting assigned revoking targets claimable s
+    (s ≤ slotCount) × (length assigned ≡ wordCount) × (length revoking ≡ wordCount) × (length targets ≡ wordCount) ×
+    (length claimable ≡ wordCount) × Four (p .0) target holder waiting assigned revoking targets claimable s
 
 abbrev μ-loop : tie.MeasureT-loop
 μ-loop target holder waiting p assigned₀ revoking₀ targets₀ claimable₀ s₀ assigned revoking targets claimable s = slotCount - s

@@ -5,14 +5,15 @@ use Rattle.tables.proofs.SetSteps.{sets-wait, sets-revoke, sets-claim}
 use borrow.Author.Needs.{needs}
 use Rattle.tables.proofs.gathering.PlaceSets.advance.Statement.{statement}
 use Rattle.tables.proofs.gathering.PlaceSets.advance.Tie as tie
+use Rattle.slots.specs.Set.{wordCount}
 
-revoking-length : (c : tie.Start) → length (c .args .self .revoking .words) ≡ 16
+revoking-length : (c : tie.Start) → length (c .args .self .revoking .words) ≡ wordCount
 revoking-length c = search needs
 
-strays-length : (c : tie.After-difference) → length (c .difference .result .words) ≡ 16
+strays-length : (c : tie.After-difference) → length (c .difference .result .words) ≡ wordCount
 strays-length c = search needs
 
-claimed-length : (c : tie.After-union) → length (c .union .result .words) ≡ 16
+claimed-length : (c : tie.After-union) → length (c .union .result .words) ≡ wordCount
 claimed-length c = search needs
 
 is-empty-requires : tie.Need-is-empty-requires
