@@ -1,4 +1,4 @@
-//! What the two coordinators have in common: the binding's names, over types of their own.
+//! What the coordinators have in common: the binding's names, over types of their own.
 
 use crate::event::{Beat, Event};
 
@@ -17,7 +17,7 @@ impl Lent {
     }
 }
 
-/// A reply in words that both sides share.
+/// A reply in words that all sides share.
 #[derive(Clone, Copy, PartialEq, Eq, Debug)]
 pub enum Outcome {
     Assigned {
@@ -137,3 +137,4 @@ macro_rules! coordinate {
 
 coordinate!(pankvisolo);
 coordinate!(plain);
+coordinate!(tuned);

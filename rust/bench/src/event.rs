@@ -1,4 +1,4 @@
-//! Events, the same for both sides.
+//! Events, the same for all sides.
 
 pub enum Event {
     Beat(Beat),

@@ -1,5 +1,5 @@
-//! The speed of the proved coordinator beside the plain one's, in one process and one run. Times
-//! are only printed; nothing depends on them.
+//! The speed of the proved coordinator beside that of the plain and of the tuned one, in one process
+//! and one run. Times are only printed; nothing depends on them.
 #![forbid(unsafe_code)]
 
 mod clock;
@@ -20,9 +20,10 @@ const INTRODUCTION: &str = "\
 Timed is one call through the public API, with the making of its request: 4,096 bytes and 1,024
 entries lent and not cleared between calls, 16 topics of 64 partitions, the 1,024 slots shared
 evenly, the members in turn. Where an event changes what the next one would find, each call has a
-copy of the group, made outside the timed part. A round is about 40 ms, in which the two sides take
-turns batch by batch, and counts for each side as the median of its batches; the times are medians
-over the rounds, the ratio is theirs, and lowest and highest are the ratios of single rounds.";
+copy of the group, made outside the timed part. A round is about 60 ms, in which the three sides
+take turns batch by batch, and counts for each side as the median of its batches; the times are
+medians over the rounds, and the ratios are theirs: to either baseline and to the quicker of the
+two, for which lowest and highest are those of single rounds.";
 
 fn main() -> ExitCode {
     let words: Vec<String> = env::args().skip(1).collect();

@@ -1,0 +1,24 @@
+//! A consumer-group coordinator in Rust, written from document 01 for speed: the second baseline
+//! for the proved coordinator, beside `plain`, which is written to be read.
+//!
+//! A member is found in a hash map by its ID, with the standard hasher. Its A, P and target are sets
+//! of sixteen words, and a table has the holder of each slot. No event allocates but a join of a new
+//! member, and that only where the map grows. What changes nothing returns before anything is built.
+//!
+//! Every event is decided first, as in `plain`, and what goes in and comes out are `plain`'s types.
+//! Comments in quotation marks are 01's sentences, shortened.
+#![forbid(unsafe_code)]
+
+mod group;
+mod heartbeat;
+mod install;
+mod join;
+mod leave;
+mod ordinary;
+mod records;
+mod slots;
+mod sweep;
+mod topic;
+
+pub use group::Group;
+pub use plain::{Answer, Heartbeat, Id, Member, Refusal, Reply, Topic};
