@@ -1,5 +1,5 @@
-//! What a coordinator must offer to be tried, and `coordinate!`, which gives it to a crate that has
-//! the names of the binding.
+//! What a coordinator must offer to be tried, and `coordinate!` and `translate!`, which give it to a
+//! crate that has the names of the binding.
 
 use crate::data::{Beat, Event, Id, Member, Reply, Start, Topic};
 
@@ -41,7 +41,8 @@ pub trait Coordinator: Clone + PartialEq {
     }
 }
 
-/// Implements `Coordinator` for `$api::Group`, by the names of the binding.
+/// Implements `Coordinator` for `$api::Group`, by the names of the binding. Its replies need
+/// `translate!`, once for each type of them.
 macro_rules! coordinate {
     ($api:ident) => {
         impl $crate::Coordinator for $api::Group {
@@ -115,7 +116,12 @@ macro_rules! coordinate {
                 $api::Group::target_of(self, slot)
             }
         }
+    };
+}
 
+/// Tells the replies of `$api` in the trial's words.
+macro_rules! translate {
+    ($api:ident) => {
         impl From<$api::Reply> for Reply {
             fn from(reply: $api::Reply) -> Reply {
                 let answer = match reply.answer {
@@ -148,4 +154,4 @@ macro_rules! coordinate {
     };
 }
 
-pub(crate) use coordinate;
+pub(crate) use {coordinate, translate};

@@ -5,13 +5,15 @@ use std::process::ExitCode;
 use std::time::{Duration, Instant};
 
 use trial::explore::{explore, Plan};
-use trial::sides::{Reference, Subject};
+use trial::sides::{Proved, Reference, Tuned};
 use trial::tally::Tally;
+use trial::Coordinator;
 
-const USAGE: &str = "usage: trial [--events N] [--seed N] [--run N]
-  --events N  go on until there were N events (default 1000000)
-  --seed N    the seed of all runs (default 1)
-  --run N     only the Nth run of the seed
+const USAGE: &str = "usage: trial [--subject NAME] [--events N] [--seed N] [--run N]
+  --subject NAME  proved or tuned, to be compared with plain (default proved)
+  --events N      go on until there were N events (default 1000000)
+  --seed N        the seed of all runs (default 1)
+  --run N         only the Nth run of the seed
 
 Ends with a table of what was met. Fails where the two coordinators differ, where
 01's ledger or the three rounds don't hold, and where a million events or more
@@ -26,8 +28,9 @@ fn main() -> ExitCode {
         println!("{USAGE}");
         return ExitCode::SUCCESS;
     }
-    match plan(words.into_iter()) {
-        Ok(plan) => run(plan),
+    match request(words.into_iter()) {
+        Ok((Subject::Proved, plan)) => run::<Proved>(plan),
+        Ok((Subject::Tuned, plan)) => run::<Tuned>(plan),
         Err(what) => {
             eprintln!("{what}\n{USAGE}");
             ExitCode::from(2)
@@ -35,10 +38,15 @@ fn main() -> ExitCode {
     }
 }
 
-fn run(plan: Plan) -> ExitCode {
+enum Subject {
+    Proved,
+    Tuned,
+}
+
+fn run<S: Coordinator>(plan: Plan) -> ExitCode {
     let begun = Instant::now();
     let mut shown = begun;
-    let outcome = explore::<Subject, Reference>(plan, |tally| {
+    let outcome = explore::<S, Reference>(plan, |tally| {
         if shown.elapsed() >= Duration::from_secs(5) {
             shown = Instant::now();
             show_progress(tally, plan, begun);
@@ -77,21 +85,34 @@ fn show_progress(tally: &Tally, plan: Plan, begun: Instant) {
     eprintln!("{events} of {all} events, {per_second:.0} a second");
 }
 
-fn plan(mut words: impl Iterator<Item = String>) -> Result<Plan, String> {
+fn request(mut words: impl Iterator<Item = String>) -> Result<(Subject, Plan), String> {
+    let mut subject = Subject::Proved;
     let mut plan = Plan {
         seed: 1,
         events: 1_000_000,
         run: None,
     };
     while let Some(word) = words.next() {
-        let number = words.next().and_then(|number| number.parse().ok());
-        let number = number.ok_or_else(|| format!("{word}: a number must follow"))?;
+        let value = words.next().unwrap_or_default();
+        let number = || {
+            let number = value.parse();
+            number.map_err(|_| format!("{word}: a number must follow"))
+        };
         match word.as_str() {
-            "--events" => plan.events = number,
-            "--seed" => plan.seed = number,
-            "--run" => plan.run = Some(number),
+            "--subject" => subject = subject_of(&value)?,
+            "--events" => plan.events = number()?,
+            "--seed" => plan.seed = number()?,
+            "--run" => plan.run = Some(number()?),
             _ => return Err(format!("{word} is unknown")),
         }
     }
-    Ok(plan)
+    Ok((subject, plan))
+}
+
+fn subject_of(name: &str) -> Result<Subject, String> {
+    match name {
+        "proved" => Ok(Subject::Proved),
+        "tuned" => Ok(Subject::Tuned),
+        _ => Err("--subject: proved or tuned must follow".into()),
+    }
 }

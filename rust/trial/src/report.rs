@@ -82,7 +82,7 @@ impl fmt::Display for Report {
         writeln!(f, "  {}", self.fault)?;
         writeln!(
             f,
-            "again: cargo run --manifest-path rust/Cargo.toml --release -p trial -- --seed {seed} --run {run}"
+            "again, with the same --subject: cargo run --manifest-path rust/Cargo.toml --release -p trial -- --seed {seed} --run {run}"
         )?;
         let count = self.shortest.turns.len();
         writeln!(f, "the shortest list found, {count} events:")?;

@@ -1,15 +1,21 @@
-//! The two sides of a trial. The binding has its feature `testing`, with which a group is what the
-//! library handed back, at a refusal too. To try another coordinator with the binding's names: make
-//! its crate a dependency, add a `coordinate!` line for it, and make its group the subject.
+//! The sides of a trial. The binding has its feature `testing`, with which two groups are equal only
+//! where every field of the library's struct is. To try another coordinator with the binding's names:
+//! make its crate a dependency, add its lines below, and give its group as the subject.
 
-use crate::coordinator::coordinate;
+use crate::coordinator::{coordinate, translate};
 use crate::data::{Answer, Beat, Id, Member, Reply, Topic};
 
 coordinate!(pankvisolo);
+translate!(pankvisolo);
+
+// The replies of `tuned` are `plain`'s.
 coordinate!(plain);
+coordinate!(tuned);
+translate!(plain);
 
-/// The coordinator under trial.
-pub type Subject = pankvisolo::Group;
+/// The coordinators under trial: the proved one, and the one that is only a measure of its speed.
+pub type Proved = pankvisolo::Group;
+pub type Tuned = tuned::Group;
 
-/// The one it is compared with; events are made with an eye on this one.
+/// The one they are compared with; events are made with an eye on this one.
 pub type Reference = plain::Group;

@@ -1,9 +1,12 @@
-//! The short trial of the gate: a million random events without a difference, and none of them
-//! wasted: every refusal of 01's table, in every order in which two can meet, every kind of
-//! event and every turn they can take is met. The long trial is a command (src/main.rs).
+//! The short trials of the gate: a million random events without a difference between the proved
+//! coordinator and the plain one, and none of them wasted: every refusal of 01's table, in every
+//! order in which two can meet, every kind of event and every turn they can take is met. And a part
+//! of that for the tuned one. The long trials are a command (src/main.rs).
 
 use trial::explore::{explore, Plan};
-use trial::sides::{Reference, Subject};
+use trial::sides::{Proved, Reference, Tuned};
+use trial::tally::Tally;
+use trial::Coordinator;
 
 /// About twenty seconds in a release build. A debug build is far slower, and gets a glimpse.
 const EVENTS: u64 = if cfg!(debug_assertions) {
@@ -11,18 +14,24 @@ const EVENTS: u64 = if cfg!(debug_assertions) {
 } else {
     1_000_000
 };
+/// Of the tuned one the events of a few seconds.
+const EVENTS_OF_TUNED: u64 = EVENTS / 5;
+
+fn without_difference<S: Coordinator>(seed: u64, events: u64) -> Tally {
+    let plan = Plan {
+        seed,
+        events,
+        run: None,
+    };
+    match explore::<S, Reference>(plan, |_| ()) {
+        Ok(tally) => tally,
+        Err(report) => panic!("{report}"),
+    }
+}
 
 #[test]
 fn no_difference_and_nothing_missed() {
-    let plan = Plan {
-        seed: 848,
-        events: EVENTS,
-        run: None,
-    };
-    let tally = match explore::<Subject, Reference>(plan, |_| ()) {
-        Ok(tally) => tally,
-        Err(report) => panic!("{report}"),
-    };
+    let tally = without_difference::<Proved>(848, EVENTS);
     println!("{tally}");
     if !cfg!(debug_assertions) {
         assert_eq!(tally.never(), Vec::<String>::new());
@@ -30,15 +39,12 @@ fn no_difference_and_nothing_missed() {
 }
 
 #[test]
+fn no_difference_in_the_tuned_one() {
+    without_difference::<Tuned>(849, EVENTS_OF_TUNED);
+}
+
+#[test]
 fn the_same_seed_gives_the_same_trial() {
-    let plan = Plan {
-        seed: 5,
-        events: 10_000,
-        run: None,
-    };
-    let trial = || match explore::<Subject, Reference>(plan, |_| ()) {
-        Ok(tally) => tally.to_string(),
-        Err(report) => panic!("{report}"),
-    };
+    let trial = || without_difference::<Proved>(5, 10_000).to_string();
     assert_eq!(trial(), trial());
 }

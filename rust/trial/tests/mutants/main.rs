@@ -1,6 +1,6 @@
-//! The trial can fail: each test alters the plain coordinator in one way and shows that it is found
-//! out, with a short list of events. Altered on one side, the comparison must see it. Altered alike
-//! on both, the comparison sees nothing, and one of the other checks must.
+//! The trial can fail: each test alters the plain coordinator, or in `tuned` that one, in one way and
+//! shows that it is found out, with a short list of events. Altered on one side, the comparison must
+//! see it. Altered alike on both, the comparison sees nothing, and one of the other checks must.
 
 mod bytes;
 mod mutant;
@@ -8,8 +8,9 @@ mod numbers;
 mod order;
 mod panics;
 mod slots;
+mod tuned;
 
-use mutant::{mutate, Mutant, Mutation, Unchanged};
+use mutant::{mutate, Mutable, Mutant, Mutation, Unchanged};
 use trial::explore::{explore, Plan};
 use trial::report::Report;
 use trial::shrink::play;
@@ -38,9 +39,9 @@ fn found_out<S: Coordinator, R: Coordinator>() -> Report {
     *report
 }
 
-fn caught(how: &'static dyn Mutation) -> Report {
+fn caught<G: Mutable>(how: &'static dyn Mutation<G>) -> Report {
     mutate(how);
-    found_out::<Mutant, plain::Group>()
+    found_out::<Mutant<G>, plain::Group>()
 }
 
 fn caught_on_both_sides(how: &'static dyn Mutation, check: Check) -> Report {
@@ -56,14 +57,18 @@ fn caught_on_each(how: &'static dyn Mutation, check: Check) {
     caught_on_both_sides(how, check);
 }
 
-#[test]
-fn nothing_is_found_where_nothing_is_altered() {
-    mutate(&Unchanged);
+fn finds_nothing<S: Coordinator>() {
     let plan = Plan {
         events: 20_000,
         ..PLAN
     };
-    assert!(explore::<Mutant, plain::Group>(plan, |_| ()).is_ok());
+    assert!(explore::<S, plain::Group>(plan, |_| ()).is_ok());
+}
+
+#[test]
+fn nothing_is_found_where_nothing_is_altered() {
+    mutate::<plain::Group>(&Unchanged);
+    finds_nothing::<Mutant>();
 }
 
 /// A report names the seed and the run, and goes through the events one a line.

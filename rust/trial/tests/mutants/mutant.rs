@@ -1,10 +1,13 @@
-//! The plain coordinator with one fault: a wrapper that alters what goes in or comes out.
+//! A coordinator with one fault, the plain one where no other is named: a wrapper that alters what
+//! goes in or comes out.
 
 use std::cell::Cell;
+use std::thread::LocalKey;
 
-use plain::Group;
+use plain::Group as Plain;
 use trial::data::{Answer, Beat, Id, Member, Reply, Topic, PLACES};
 use trial::Coordinator;
+use tuned::Group as Tuned;
 
 /// What is lent to a heartbeat.
 pub struct Lent<'a> {
@@ -13,58 +16,76 @@ pub struct Lent<'a> {
 }
 
 /// What is altered; everything else passes unchanged.
-pub trait Mutation: Sync {
-    fn heartbeat(&self, mutant: &mut Mutant, beat: &Beat, lent: &mut Lent) -> Reply {
+pub trait Mutation<G: Mutable = Plain>: Sync {
+    fn heartbeat(&self, mutant: &mut Mutant<G>, beat: &Beat, lent: &mut Lent) -> Reply {
         mutant.take(beat, lent)
     }
 
-    fn sweep(&self, mutant: &mut Mutant, tick: u32, records: &mut [u8]) -> Reply {
-        Coordinator::sweep(&mut mutant.group, tick, records)
+    fn sweep(&self, mutant: &mut Mutant<G>, tick: u32, records: &mut [u8]) -> Reply {
+        mutant.group.sweep(tick, records)
     }
 
-    fn install(&self, mutant: &mut Mutant, epoch: i32, entries: &[u8], buffer: &mut [u8]) -> Reply {
-        Coordinator::install(&mut mutant.group, epoch, entries, buffer)
+    fn install(&self, of: &mut Mutant<G>, epoch: i32, entries: &[u8], buffer: &mut [u8]) -> Reply {
+        of.group.install(epoch, entries, buffer)
     }
 
-    fn epoch(&self, mutant: &Mutant) -> i32 {
+    fn epoch(&self, mutant: &Mutant<G>) -> i32 {
         mutant.group.epoch()
     }
 
-    fn last_tick(&self, mutant: &Mutant) -> u32 {
+    fn last_tick(&self, mutant: &Mutant<G>) -> u32 {
         mutant.group.last_tick()
     }
-}
-
-thread_local! {
-    /// Of the groups that this thread makes. A trial makes its groups itself, and one type for all
-    /// mutations keeps the tests quick to compile.
-    static MUTATION: Cell<&'static dyn Mutation> = const { Cell::new(&Unchanged) };
-}
-
-/// The groups that this thread makes from here on have the mutation.
-pub fn mutate(mutation: &'static dyn Mutation) {
-    MUTATION.set(mutation);
 }
 
 /// No mutation.
 pub struct Unchanged;
 
-impl Mutation for Unchanged {}
+impl<G: Mutable> Mutation<G> for Unchanged {}
+
+/// A coordinator that can be given a mutation: where the one stands that the groups get which a thread
+/// makes. A trial makes its groups itself, and one type for all mutations keeps the tests quick to
+/// compile.
+pub trait Mutable: Coordinator + 'static {
+    fn mutation() -> &'static LocalKey<Cell<&'static dyn Mutation<Self>>>;
+}
+
+macro_rules! mutable {
+    ($group:ty) => {
+        impl Mutable for $group {
+            fn mutation() -> &'static LocalKey<Cell<&'static dyn Mutation<Self>>> {
+                thread_local! {
+                    static MUTATION: Cell<&'static dyn Mutation<$group>> =
+                        const { Cell::new(&Unchanged) };
+                }
+                &MUTATION
+            }
+        }
+    };
+}
+
+mutable!(Plain);
+mutable!(Tuned);
+
+/// The groups that this thread makes from here on have the mutation.
+pub fn mutate<G: Mutable>(mutation: &'static dyn Mutation<G>) {
+    G::mutation().set(mutation);
+}
 
 #[derive(Clone)]
-pub struct Mutant {
-    mutation: &'static dyn Mutation,
-    pub group: Group,
+pub struct Mutant<G: Mutable = Plain> {
+    mutation: &'static dyn Mutation<G>,
+    pub group: G,
     /// What a mutation may keep: a number, a tick, a target.
     pub number: i32,
     pub tick: Option<u32>,
     pub target: Vec<Option<u8>>,
 }
 
-impl Mutant {
-    fn new(group: Group) -> Mutant {
+impl<G: Mutable> Mutant<G> {
+    fn new(group: G) -> Mutant<G> {
         Mutant {
-            mutation: MUTATION.get(),
+            mutation: G::mutation().get(),
             group,
             number: 0,
             tick: None,
@@ -72,26 +93,26 @@ impl Mutant {
         }
     }
 
-    /// The heartbeat as the plain coordinator takes it.
+    /// The heartbeat as the coordinator takes it.
     pub fn take(&mut self, beat: &Beat, lent: &mut Lent) -> Reply {
-        Coordinator::heartbeat(&mut self.group, beat, lent.records, lent.list)
+        self.group.heartbeat(beat, lent.records, lent.list)
     }
 }
 
-impl PartialEq for Mutant {
-    fn eq(&self, other: &Mutant) -> bool {
-        let kept = |of: &Mutant| (of.number, of.tick);
+impl<G: Mutable> PartialEq for Mutant<G> {
+    fn eq(&self, other: &Mutant<G>) -> bool {
+        let kept = |of: &Mutant<G>| (of.number, of.tick);
         self.group == other.group && kept(self) == kept(other) && self.target == other.target
     }
 }
 
-impl Coordinator for Mutant {
+impl<G: Mutable> Coordinator for Mutant<G> {
     fn fresh(tick: u32) -> Self {
-        Mutant::new(Group::new(tick))
+        Mutant::new(G::fresh(tick))
     }
 
     fn at_epochs(tick: u32, epoch: i32, target_epoch: i32) -> Self {
-        Mutant::new(Group::at_epochs(tick, epoch, target_epoch))
+        Mutant::new(G::at_epochs(tick, epoch, target_epoch))
     }
 
     fn heartbeat(&mut self, beat: &Beat, records: &mut [u8], list: &mut [u16]) -> Reply {
@@ -104,7 +125,7 @@ impl Coordinator for Mutant {
     }
 
     fn topic(&mut self, number: u32, id: Id, count: u32, records: &mut [u8]) -> Reply {
-        Coordinator::topic(&mut self.group, number, id, count, records)
+        self.group.topic(number, id, count, records)
     }
 
     fn install(&mut self, epoch: i32, entries: &[u8], records: &mut [u8]) -> Reply {
@@ -124,11 +145,11 @@ impl Coordinator for Mutant {
     }
 
     fn topic_at(&self, number: u8) -> Option<Topic> {
-        Coordinator::topic_at(&self.group, number)
+        self.group.topic_at(number)
     }
 
     fn member_at(&self, place: u8) -> Option<Member> {
-        Coordinator::member_at(&self.group, place)
+        self.group.member_at(place)
     }
 
     fn target_of(&self, slot: u16) -> Option<u8> {
@@ -148,21 +169,21 @@ pub fn is_refused(reply: Reply, due: u16) -> bool {
 }
 
 /// The place and the state of a member.
-pub fn find(group: &Group, id: &Id) -> Option<(u8, Member)> {
+pub fn find(group: &impl Coordinator, id: &Id) -> Option<(u8, Member)> {
     (0..PLACES).find_map(|place| {
-        let member = Coordinator::member_at(group, place)?;
+        let member = group.member_at(place)?;
         (member.id == *id).then_some((place, member))
     })
 }
 
 /// The sender of an ordinary heartbeat at its right epoch.
-pub fn sender(group: &Group, beat: &Beat) -> Option<(u8, Member)> {
+pub fn sender(group: &impl Coordinator, beat: &Beat) -> Option<(u8, Member)> {
     let found = (beat.epoch > 0).then(|| find(group, &beat.id))?;
     found.filter(|(_, member)| member.epoch == beat.epoch)
 }
 
 /// The slots whose target is the place.
-pub fn target(group: &Group, place: u8) -> Vec<u16> {
+pub fn target(group: &impl Coordinator, place: u8) -> Vec<u16> {
     let slots = 0..1_024;
     slots
         .filter(|&slot| group.target_of(slot) == Some(place))
