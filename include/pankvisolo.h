@@ -1,25 +1,27 @@
 /*
  * Pankvisolo: the proved consumer-group coordinator, for hosts in C or C++ on x86-64 Linux.
  *
- * `rt staticlib exports` writes the archive to link: target/staticlib/libexports.a. It needs nothing
- * but memcpy and memset.
+ * `rt staticlib pankvisolo` writes the archive to link: target/staticlib/libpankvisolo.a. Of the C
+ * library it needs memcpy and memset, and nothing else; it allocates nothing and has no state
+ * of its own.
  *
- * A group goes in by value and comes back by value; buffers and lists are lent for the call, each as a
- * pointer and a number of elements. An event either is refused, and then the group that comes back is the
- * one that went in and nothing was written; or it is accepted, and then the first `written` bytes of
- * `records` are to be stored, and the first `count` entries of `list` are the member's slots. What lies
- * behind those is left as it was. 4,096 bytes and 1,024 slots are room enough for any event.
+ * A group is the host's memory, lent by pointer and changed in place; buffers and lists are lent for the
+ * call, each as a pointer and a number of elements. An event either is refused, and then every byte of
+ * the group, of `records` and of `list` is as it was; or it is accepted, and then the first `written`
+ * bytes of `records` are to be stored, and the first `count` entries of `list` are the member's slots.
+ * What lies behind those is left as it was. 4,096 bytes and 1,024 slots are room enough for any event.
  *
- * The functions take every number. What they ask of a caller is C's own: a pointer is good for the length
- * that goes with it and is not NULL, even where that length is 0; `records` and `list` overlap with
- * nothing; a bool is 0 or 1; and a group came from one of these functions.
+ * The functions take every number. What they ask of a caller is C's own: a pointer is good for what it is
+ * lent for, and NULL will do where a length is 0; the group, `records` and `list` overlap with nothing; a
+ * bool is 0 or 1; and one group is used by one at a time. What is proved of a whole run is proved of a group
+ * that came from pankvisolo_fresh and was changed by these functions alone. A call needs at most
+ * PANKVISOLO_STACK bytes of stack.
  *
  * Partition p of topic t is slot 64t + p. Ticks are the host's clock in milliseconds and may run over.
  */
 #ifndef PANKVISOLO_H
 #define PANKVISOLO_H
 
-#include <assert.h>
 #include <stdbool.h>
 #include <stddef.h>
 #include <stdint.h>
@@ -28,63 +30,78 @@
 extern "C" {
 #endif
 
+#define PANKVISOLO_VERSION_MAJOR 0
+#define PANKVISOLO_VERSION_MINOR 1
+#define PANKVISOLO_VERSION_PATCH 0
+#define PANKVISOLO_VERSION "0.1.0"
+
 #define PANKVISOLO_TOPICS 16
 #define PANKVISOLO_PLACES 32
 #define PANKVISOLO_SLOTS 1024
+
+/* The bytes of stack that a call needs at most; rust/pankvisolo/c/stack.c measures them. */
+#define PANKVISOLO_STACK 5120
 
 /* In the tables and in the entries of an install: no place. */
 #define PANKVISOLO_NO_PLACE 255
 /* In a reply: no slot. */
 #define PANKVISOLO_NO_SLOT 65535
 
-/* The numbers of a reply. */
+/* The numbers of a reply: what is refused, and why. Where several hold, the first in this order is given. */
 enum {
     PANKVISOLO_ACCEPTED = 0,
-    PANKVISOLO_UNKNOWN_MEMBER_ID = 25,
-    PANKVISOLO_INVALID_REQUEST = 42,
-    PANKVISOLO_GROUP_MAX_SIZE_REACHED = 81,
-    PANKVISOLO_FENCED_MEMBER_EPOCH = 110,
+    /* A heartbeat or a sweep: its tick is 2^31 or more past the last one, which is to say before it. */
     PANKVISOLO_CLOCK = 1001,
-    PANKVISOLO_EPOCH_END = 1002,
-    PANKVISOLO_ROOM = 1003,
-    PANKVISOLO_STALE = 1004,
-    PANKVISOLO_ALREADY = 1005,
+    /* A heartbeat: its ID is all zero; its epoch is below -1; its timeout is neither -1 nor 1 to 1,800,000;
+       its list doesn't rise or has a number above 1,023; or it joins without a subscription, a timeout or an
+       empty list. Of a leave only the ID is looked at. Also, after PANKVISOLO_FENCED_MEMBER_EPOCH: an ordinary
+       heartbeat lists a slot that its sender doesn't hold. */
+    PANKVISOLO_INVALID_REQUEST = 42,
+    /* An ordinary heartbeat or a leave: the ID is no member's. */
+    PANKVISOLO_UNKNOWN_MEMBER_ID = 25,
+    /* A join: the ID is no member's, and every place is taken. */
+    PANKVISOLO_GROUP_MAX_SIZE_REACHED = 81,
+    /* An ordinary heartbeat: its epoch is not the member's. */
+    PANKVISOLO_FENCED_MEMBER_EPOCH = 110,
+    /* An install: there are not 1,024 entries, and PANKVISOLO_NO_SLOT is reported. Also, after
+       PANKVISOLO_ALREADY: an entry's place is free or there is none such, its slot doesn't exist, or its member
+       doesn't subscribe to the topic; the first such slot is reported. */
     PANKVISOLO_BAD_TARGET = 1006,
-    PANKVISOLO_BAD_TOPIC = 1007
+    /* An install: its epoch is not the group's. */
+    PANKVISOLO_STALE = 1004,
+    /* An install: the group's epoch has its target. */
+    PANKVISOLO_ALREADY = 1005,
+    /* A topic: its number is above 15, its count not 1 to 64, its ID all zero or another topic's; or there is
+       a topic of the number, and it has another ID or a larger count. */
+    PANKVISOLO_BAD_TOPIC = 1007,
+    /* A join, a changed subscription or a topic: the group's epoch would rise past 2,147,483,647. */
+    PANKVISOLO_EPOCH_END = 1002,
+    /* The records don't fit `records`, or the slots `list`. */
+    PANKVISOLO_ROOM = 1003
 };
 
-/* A topic of some number; with count 0 there is none. */
-struct pankvisolo_topic {
-    uint8_t id[16];
-    uint8_t count;
-};
-
-/* A place and, where it is used, the member at it. Its slots stand in the tables. */
-struct pankvisolo_seat {
-    uint8_t id[16];
-    uint32_t epoch;
-    uint16_t subscription; /* topic t is 2^t */
-    uint32_t timeout;
-    uint32_t heard;      /* the tick at which it was last heard */
-    uint32_t revoked_at; /* the tick at which it was last asked to give slots back */
-    bool used;
-};
-
-/* By slot: the place that is to have it, the place that has it, and whether that one is giving it back. */
-struct pankvisolo_tables {
-    uint8_t target[PANKVISOLO_SLOTS];
-    uint8_t holder[PANKVISOLO_SLOTS];
-    bool waiting[PANKVISOLO_SLOTS];
-};
-
-/* A group. Read it as you like; make one with pankvisolo_fresh and change it by events alone. */
+/*
+ * A group. Read it as you like; make one with pankvisolo_fresh and change it by events alone.
+ *
+ * Members stand in columns by place. With w0 to w3 the little-endian words of a member's ID, its column 0 is
+ * the sum of all four and the other columns are w1, w2 and w3; where all four are 0, the place is free and
+ * its other columns don't count.
+ */
 struct pankvisolo_group {
     uint32_t epoch;
     uint32_t target_epoch;
     uint32_t tick; /* of the last accepted event that had one */
-    struct pankvisolo_topic topics[PANKVISOLO_TOPICS];
-    struct pankvisolo_seat seats[PANKVISOLO_PLACES];
-    struct pankvisolo_tables tables;
+    uint32_t member_ids[4][PANKVISOLO_PLACES];
+    uint32_t member_epochs[PANKVISOLO_PLACES];
+    uint32_t subscriptions[PANKVISOLO_PLACES]; /* topic t is 2^t */
+    uint32_t timeouts[PANKVISOLO_PLACES];
+    uint32_t heard[PANKVISOLO_PLACES];      /* the tick at which the member was last heard */
+    uint32_t revoked_at[PANKVISOLO_PLACES]; /* the tick at which it was last asked to give slots back */
+    uint8_t topic_ids[PANKVISOLO_TOPICS][16];
+    uint8_t topic_counts[PANKVISOLO_TOPICS]; /* 0: there is no topic of the number */
+    uint8_t target[PANKVISOLO_SLOTS];        /* the place that is to have the slot, */
+    uint8_t holder[PANKVISOLO_SLOTS];        /* the place that has it, */
+    bool waiting[PANKVISOLO_SLOTS];          /* and whether that one is giving it back */
 };
 
 /* A member's heartbeat, but for its list of owned slots. Epoch 0 joins, -1 leaves, above 0 is ordinary. */
@@ -112,44 +129,38 @@ struct pankvisolo_reply {
     size_t written;    /* the bytes of records */
 };
 
-/* The group after an event, and the answer. */
-struct pankvisolo_served {
-    struct pankvisolo_group group;
-    struct pankvisolo_reply reply;
-};
-
-static_assert(sizeof(struct pankvisolo_topic) == 17, "the archive has another pankvisolo_topic");
-static_assert(sizeof(struct pankvisolo_seat) == 40, "the archive has another pankvisolo_seat");
-static_assert(sizeof(struct pankvisolo_tables) == 3072, "the archive has another pankvisolo_tables");
-static_assert(sizeof(struct pankvisolo_group) == 4636, "the archive has another pankvisolo_group");
-static_assert(sizeof(struct pankvisolo_request) == 36, "the archive has another pankvisolo_request");
-static_assert(sizeof(struct pankvisolo_id) == 16, "the archive has another pankvisolo_id");
-static_assert(sizeof(struct pankvisolo_reply) == 32, "the archive has another pankvisolo_reply");
-static_assert(sizeof(struct pankvisolo_served) == 4672, "the archive has another pankvisolo_served");
+/* Where the archive's struct has another size, this doesn't compile. */
+#define PANKVISOLO_SIZE(name, size) \
+    typedef char pankvisolo_size_of_##name[sizeof(struct pankvisolo_##name) == (size) ? 1 : -1]
+PANKVISOLO_SIZE(group, 4508);
+PANKVISOLO_SIZE(request, 36);
+PANKVISOLO_SIZE(id, 16);
+PANKVISOLO_SIZE(reply, 32);
+#undef PANKVISOLO_SIZE
 
 /* A group with no topics and no members. */
 struct pankvisolo_group pankvisolo_fresh(uint32_t tick);
 
 /* A member joins, leaves or says that it is there. */
-struct pankvisolo_served pankvisolo_heartbeat(
-    struct pankvisolo_group group, struct pankvisolo_request request,
+struct pankvisolo_reply pankvisolo_heartbeat(
+    struct pankvisolo_group *group, const struct pankvisolo_request *request,
     const uint16_t *owned, size_t owned_length,
     uint8_t *records, size_t records_length,
     uint16_t *list, size_t list_length);
 
 /* Removes the members that weren't heard for too long, or took too long to give slots back. */
-struct pankvisolo_served pankvisolo_sweep(
-    struct pankvisolo_group group, uint32_t tick,
+struct pankvisolo_reply pankvisolo_sweep(
+    struct pankvisolo_group *group, uint32_t tick,
     uint8_t *records, size_t records_length);
 
 /* Makes a topic, or raises its number of partitions. */
-struct pankvisolo_served pankvisolo_topic(
-    struct pankvisolo_group group, uint32_t number, struct pankvisolo_id id, uint32_t count,
+struct pankvisolo_reply pankvisolo_set_topic(
+    struct pankvisolo_group *group, uint32_t number, struct pankvisolo_id id, uint32_t count,
     uint8_t *records, size_t records_length);
 
 /* Sets who is to have each slot: 1,024 entries, each a place or PANKVISOLO_NO_PLACE. */
-struct pankvisolo_served pankvisolo_install(
-    struct pankvisolo_group group, int32_t epoch,
+struct pankvisolo_reply pankvisolo_install(
+    struct pankvisolo_group *group, int32_t epoch,
     const uint8_t *entries, size_t entries_length,
     uint8_t *records, size_t records_length);
 

@@ -1,6 +1,6 @@
-//! Links the archive of the proved functions. `rt staticlib exports` writes it below the
+//! Links the archive of the proved functions. `rt staticlib pankvisolo` writes it below the
 //! repository's target/; where it is missing, or older than a file that it is made of, that command
-//! is run here first. From nothing it proves every crate below `exports`, which takes minutes.
+//! is run here first. From nothing it proves every crate below `pankvisolo`, which takes minutes.
 //!
 //! A copy of the archive is what is linked, since `rt ci` removes target/ and cargo must not miss it.
 
@@ -12,8 +12,8 @@ use std::path::{Path, PathBuf};
 use std::process::{Command, ExitCode, Stdio};
 use std::time::SystemTime;
 
-const EXPORTS: &str = "exports";
-const COMMAND: &str = "`rt staticlib exports`";
+const CRATE: &str = "pankvisolo";
+const COMMAND: &str = "`rt staticlib pankvisolo`";
 
 fn main() -> ExitCode {
     match link() {
@@ -35,30 +35,30 @@ fn link() -> Result<(), String> {
     }
     let root = Path::new(&variable("CARGO_MANIFEST_DIR")?).join("../..");
     let root = root.canonicalize().map_err(about(&root))?;
-    let archive = root.join("target/staticlib/libexports.a");
+    let archive = root.join("target/staticlib/libpankvisolo.a");
     let sources = sources(&root)?;
     if is_missing_or_old(&archive, &sources)? {
         prove(&root, &archive)?;
     }
     let folder = PathBuf::from(variable("OUT_DIR")?);
-    let copy = folder.join("libexports.a");
+    let copy = folder.join("libpankvisolo.a");
     fs::copy(&archive, &copy).map_err(about(&archive))?;
     println!("cargo:rerun-if-changed=build.rs");
     for source in &sources {
         println!("cargo:rerun-if-changed={}", source.display());
     }
     println!("cargo:rustc-link-search=native={}", folder.display());
-    println!("cargo:rustc-link-lib=static=exports");
+    println!("cargo:rustc-link-lib=static=pankvisolo");
     println!("cargo:rustc-env=PANKVISOLO_ARCHIVE={}", copy.display());
     Ok(())
 }
 
-/// crates.txt, and what `exports` and all that it depends on in this repository are made of.
+/// crates.txt, and what `pankvisolo` and all that it depends on in this repository are made of.
 fn sources(root: &Path) -> Result<Vec<PathBuf>, String> {
     let list = root.join("crates.txt");
     let text = fs::read_to_string(&list).map_err(about(&list))?;
     let mut reached = BTreeSet::new();
-    let mut ahead = vec![EXPORTS];
+    let mut ahead = vec![CRATE];
     while let Some(name) = ahead.pop() {
         // A library of the kit has no line of its own.
         if let Some(depends_on) = line_of(&text, name) {
@@ -117,7 +117,7 @@ fn changed(path: &Path) -> Result<SystemTime, String> {
 fn prove(root: &Path, archive: &Path) -> Result<(), String> {
     let begun = SystemTime::now();
     let output = Command::new("rt")
-        .args(["staticlib", EXPORTS])
+        .args(["staticlib", CRATE])
         .current_dir(root)
         .stdin(Stdio::null())
         .output()

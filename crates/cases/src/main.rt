@@ -7,8 +7,14 @@
 // the buffer lent, 64 at most. The topic is topic 0, and a joiner subscribes to it.
 use events::Outcome;
 use events::Request;
-use group::Group;
+use group::CELLS;
+use group::EPOCH;
+use group::TARGET_EPOCH;
+use group::TOPIC_BYTES;
 use rules::Answer;
+use rules::NO_PLACE;
+use rules::SLOTS;
+use rules::TOPICS;
 
 const COLUMNS: usize = 7;
 
@@ -160,66 +166,172 @@ fn request(row: Row) -> Request {
     }
 }
 
-// The first `count` of the slots 0, 1 and 2 are listed.
-fn heartbeat(g: Group, b: Request, count: usize, records: &mut [u8], list: &mut [u16]) -> Outcome {
-    let held = [0u16, 1, 2];
-    let end = count % 4;
-    coordinator::heartbeat(g, b, &held[0..end], records, list)
-}
-
 // For slots 0, 1 and 2 the places that the three digits say.
-fn entries(n: u32) -> [u8; 1024] {
-    let mut entries = [255u8; 1024];
+fn entries(n: u32) -> [u8; SLOTS] {
+    let mut entries = [NO_PLACE; SLOTS];
     entries[0] = (n / 100 % 10) as u8;
     entries[1] = (n / 10 % 10) as u8;
     entries[2] = (n % 10) as u8;
     entries
 }
 
-fn install(g: Group, epoch: i32, n: u32, records: &mut [u8]) -> Outcome {
-    let target = entries(n);
-    coordinator::install(g, epoch, &target, records)
+// A fresh group in place of the one that was there.
+fn renew<'a>(
+    head: &'a mut [u32; 3],
+    members: &'a mut [u32; CELLS],
+    topic_ids: &'a mut [u8; TOPIC_BYTES],
+    topic_counts: &'a mut [u8; TOPICS],
+    target: &'a mut [u8; SLOTS],
+    holder: &'a mut [u8; SLOTS],
+    waiting: &'a mut [bool; SLOTS],
+    tick: u32,
+) {
+    let g = coordinator::fresh(tick);
+    let new_head = g.head;
+    *head = new_head;
+    let new_members = g.members;
+    *members = new_members;
+    let new_topic_ids = g.topic_ids;
+    *topic_ids = new_topic_ids;
+    let new_topic_counts = g.topic_counts;
+    *topic_counts = new_topic_counts;
+    let new_target = g.target;
+    *target = new_target;
+    let new_holder = g.holder;
+    *holder = new_holder;
+    let new_waiting = g.waiting;
+    *waiting = new_waiting;
 }
 
-fn serve(g: Group, row: Row, records: &mut [u8], list: &mut [u16]) -> Outcome {
+// A heartbeat lists the first N of the slots 0, 1 and 2.
+fn serve<'a>(
+    head: &'a mut [u32; 3],
+    members: &'a mut [u32; CELLS],
+    topic_ids: &'a mut [u8; TOPIC_BYTES],
+    topic_counts: &'a mut [u8; TOPICS],
+    target: &'a mut [u8; SLOTS],
+    holder: &'a mut [u8; SLOTS],
+    waiting: &'a mut [bool; SLOTS],
+    row: Row,
+    records: &mut [u8],
+    list: &mut [u16],
+) -> Outcome {
     let n = row.numbers;
     let event = row.event;
+    let held = [0u16, 1, 2];
+    let end = n[5] as usize % 4;
+    let places = entries(n[5]);
     match event {
-        b't' => coordinator::topic(g, 0, id(n[1]), n[5], records),
-        b's' => coordinator::sweep(g, n[3], records),
-        b'i' => install(g, signed(n[2]), n[5], records),
-        _ => heartbeat(g, request(row), n[5] as usize, records, list),
+        b't' => coordinator::topic(
+            head,
+            members,
+            topic_ids,
+            topic_counts,
+            0,
+            id(n[1]),
+            n[5],
+            records,
+        ),
+        b's' => coordinator::sweep(head, members, target, holder, waiting, n[3], records),
+        b'i' => coordinator::install(
+            head,
+            members,
+            topic_counts,
+            target,
+            signed(n[2]),
+            &places,
+            records,
+        ),
+        _ => coordinator::heartbeat(
+            head,
+            members,
+            target,
+            holder,
+            waiting,
+            request(row),
+            &held[0..end],
+            records,
+            list,
+        ),
     }
 }
 
-fn run(g: Group, row: Row, records: &mut [u8], list: &mut [u16]) -> Group {
+fn run<'a>(
+    head: &'a mut [u32; 3],
+    members: &'a mut [u32; CELLS],
+    topic_ids: &'a mut [u8; TOPIC_BYTES],
+    topic_counts: &'a mut [u8; TOPICS],
+    target: &'a mut [u8; SLOTS],
+    holder: &'a mut [u8; SLOTS],
+    waiting: &'a mut [bool; SLOTS],
+    row: Row,
+    records: &mut [u8],
+    list: &mut [u16],
+) {
     let n = row.numbers;
     if row.event == b'f' {
-        return coordinator::fresh(n[3]);
+        renew(
+            head,
+            members,
+            topic_ids,
+            topic_counts,
+            target,
+            holder,
+            waiting,
+            n[3],
+        );
+        return;
     }
     let room = n[6] as usize;
     if records.len() < room {
-        return g;
+        return;
     }
-    let o = serve(g, row, &mut records[0..room], list);
-    let after = o.group;
+    let o = serve(
+        head,
+        members,
+        topic_ids,
+        topic_counts,
+        target,
+        holder,
+        waiting,
+        row,
+        &mut records[0..room],
+        list,
+    );
     if row.has_name {
         let a = o.answer;
-        show(a, list, records, o.written, after.epoch, after.target_epoch);
+        show(a, list, records, o.written, head[EPOCH], head[TARGET_EPOCH]);
     }
-    after
 }
 
 // What follows the last row is no row.
 fn run_table(table: &[u8]) {
-    let mut g = coordinator::fresh(0);
+    let g = coordinator::fresh(0);
+    let mut head = g.head;
+    let mut members = g.members;
+    let mut topic_ids = g.topic_ids;
+    let mut topic_counts = g.topic_counts;
+    let mut target = g.target;
+    let mut holder = g.holder;
+    let mut waiting = g.waiting;
     let mut row = empty_row();
     let mut i: usize = 0;
     while i < table.len() {
         let b = table[i];
         i += 1;
         if b == b'\n' {
-            g = run(g, row, &mut [0u8; 64], &mut [0u16; 8]);
+            run(
+                &mut head,
+                &mut members,
+                &mut topic_ids,
+                &mut topic_counts,
+                &mut target,
+                &mut holder,
+                &mut waiting,
+                row,
+                &mut [0u8; 64],
+                &mut [0u16; 8],
+            );
             row = empty_row();
         } else {
             row = read(row, b);

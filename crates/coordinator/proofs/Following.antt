@@ -25,7 +25,7 @@ run-follows xs g r = follows xs (begun g) r
 
 run-front : (xs ys : List Exchange) (g : Group) → Run g (xs ++ ys) → Run g xs
 run-front [] ys g r = tt
-run-front (x ∷ xs) ys g r = (r .0, run-front xs ys (x .outcome .group) (r .1))
+run-front (x ∷ xs) ys g r = (r .0, run-front xs ys (x .group) (r .1))
 
 pub runs-single-holder : (g : Group) → SingleHolder (view g) → RunsSingleHolder g
 unfolding RunsSingleHolder SingleHolder viewCourse

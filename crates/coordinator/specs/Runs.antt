@@ -12,23 +12,24 @@ use Rattle.group.specs.View.{view}
 use Rattle.events.specs.declared.Outcome.{Outcome}
 use Rattle.events.specs.Outcomes.{took}
 
--- an event with what was lent to it, what the function handed back, and what the buffer and the list then held
+-- an event with what was lent to it, what the function handed back, and what the group, the buffer and the list then were
 pub record Exchange : Type 0 where
   pub call : Call
   pub outcome : Outcome
+  pub group : Group
   pub buffer : List ℕ
   pub list : List ℕ
 
 abbrev pub shown : Exchange → Stepped
-shown x = took (x .outcome) (x .buffer) (x .list)
+shown x = took (x .outcome) (view (x .group)) (x .buffer) (x .list)
 
 abbrev pub callsOf : List Exchange → List Call
 callsOf xs = map (λ x. x .call) xs
 
--- each event was given to the function for it, with the group that the one before returned: what every contract of the crate says
+-- each event was given to the function for it, with the group as the one before left it: what every contract of the crate says
 abbrev pub Run : Group → List Exchange → Type 0
 Run g [] = Unit {0}
-Run g (x ∷ xs) = (shown x ≡ stepped (view g) (x .call)) × Run (x .outcome .group) xs
+Run g (x ∷ xs) = (shown x ≡ stepped (view g) (x .call)) × Run (x .group) xs
 
 -- ---- the course of a run
 
@@ -41,7 +42,7 @@ unfoldable pub begun : Group → Course
 begun g = record { group = g; history = noHistory }
 
 unfoldable pub next : Course → Exchange → Course
-next c x = record { group = x .outcome .group; history = observe (c .history) (seenOf (x .call .event) (shown x)) }
+next c x = record { group = x .group; history = observe (c .history) (seenOf (x .call .event) (shown x)) }
 
 unfoldable pub courseAfter : Course → List Exchange → Course
 courseAfter c xs = foldl next c xs

@@ -18,27 +18,26 @@ use Rattle.rules.specs.declared.Refusal.the-variants.{Room}
 use Rattle.rules.specs.declared.Answer.{Answer}
 use Rattle.rules.specs.declared.Answer.the-variants.{Refused}
 use Rattle.numbers.specs.Buffer.{Wrote}
-use Rattle.group.specs.declared.Group as S
-use Rattle.group.specs.View.{view}
 use Rattle.events.specs.declared.Outcome.{Outcome}
-use Rattle.events.specs.Outcomes.{took, SameIfRefused, RefusalKeeps, carried, stepAs}
+use Rattle.events.specs.Outcomes.{took, SameIfRefused, carried, stepAs}
 
 -- ---- refusals
 
 abbrev pub denied : Refusal → Group → List ℕ → List ℕ → Stepped
 denied why g b l = record { answer = Refused why; group = g; written = 0; buffer = b; list = l }
 
-pub took-refused : {r : Outcome} {g : S.Group} {why : Refusal} (b l : List ℕ) → r ≡ record { group = g; answer = Refused why; written = 0 } → took r b l ≡ denied why (view g) b l
-unfolding took
-took-refused b l e = ap (λ (r : Outcome). took r b l) e
+module _ {r : Outcome} {why : Refusal} (e : r ≡ record { answer = Refused why; written = 0 }) where
+  pub took-refused : (g : Group) (b l : List ℕ) → took r g b l ≡ denied why g b l
+  unfolding took
+  took-refused g b l = ap (λ (x : Outcome). took x g b l) e
 
--- the group that a refusal hands back is the very one that went in
-pub keeps-refused : {r : Outcome} {g : S.Group} {why : Refusal} → r ≡ record { group = g; answer = Refused why; written = 0 } → RefusalKeeps g r
-keeps-refused {r} {g} e = subst (λ (o : Outcome). RefusalKeeps g o) (sym e) refl
+  -- what a refusal was lent is the very value that it was
+  pub same-refused : {A : Type 0} (x : A) → SameIfRefused (r .answer) x x
+  same-refused x = subst (λ (o : Outcome). SameIfRefused (o .answer) x x) (sym e) refl
 
 -- and of an answer that accepts nothing is asked
-pub keeps-answer : {a : Answer} (g : S.Group) (r : Outcome) → r .answer ≡ a → SameIfRefused a g (r .group) → RefusalKeeps g r
-keeps-answer g r e k = subst (λ (a : Answer). SameIfRefused a g (r .group)) (sym e) k
+pub same-answer : {a : Answer} {A : Type 0} (r : Outcome) (x y : A) → r .answer ≡ a → SameIfRefused a x y → SameIfRefused (r .answer) x y
+same-answer r x y e k = subst (λ (a : Answer). SameIfRefused a x y) (sym e) k
 
 -- ---- heartbeats are taken as the kind of their epoch
 
@@ -48,24 +47,24 @@ step-kind g b buffer list = refl
 
 -- ---- an effect that no row refuses: no room in the buffer, no room in the list, or carried out
 
-module _ (f : Effect) (b l : List ℕ) where
-  pub no-room-records : {s : S.Group} {r : Outcome} → length b < length (allBytes (f .records)) → r ≡ record { group = s; answer = Refused Room; written = 0 } → took r b l ≡ carried (view s) f b l
+module _ (f : Effect) (b l : List ℕ) (g : Group) where
+  pub no-room-records : {r : Outcome} → length b < length (allBytes (f .records)) → r ≡ record { answer = Refused Room; written = 0 } → took r g b l ≡ carried g f b l
   unfolding carried carryOut firstOf tooLittleRoom
-  no-room-records p q = took-refused b l q ∙ rw (lt-ltb _ _ p)
+  no-room-records p q = took-refused q g b l ∙ rw (lt-ltb _ _ p)
 
-  pub no-room-list : {s : S.Group} {r : Outcome} → length (allBytes (f .records)) ≤ length b → length l < length (f .told) → r ≡ record { group = s; answer = Refused Room; written = 0 } → took r b l ≡ carried (view s) f b l
+  pub no-room-list : {r : Outcome} → length (allBytes (f .records)) ≤ length b → length l < length (f .told) → r ≡ record { answer = Refused Room; written = 0 } → took r g b l ≡ carried g f b l
   unfolding carried carryOut firstOf tooLittleRoom
-  no-room-list p h q = took-refused b l q ∙ rw (le-ltb _ _ p, lt-ltb _ _ h)
+  no-room-list p h q = took-refused q g b l ∙ rw (le-ltb _ _ p, lt-ltb _ _ h)
 
-  pub carried-out : (g : Group) (out : S.Group) {w : ℕ} {b′ l′ : List ℕ} → length (allBytes (f .records)) ≤ length b → length (f .told) ≤ length l
-      → view out ≡ f .group → Wrote (allBytes (f .records)) b b′ w → l′ ≡ overlay (f .told) l
-      → took (record { group = out; answer = f .answer; written = w }) b′ l′ ≡ carried g f b l
+  pub carried-out : (g′ : Group) {w : ℕ} {b′ l′ : List ℕ} → length (allBytes (f .records)) ≤ length b → length (f .told) ≤ length l
+      → g′ ≡ f .group → Wrote (allBytes (f .records)) b b′ w → l′ ≡ overlay (f .told) l
+      → took (record { answer = f .answer; written = w }) g′ b′ l′ ≡ carried g f b l
   unfolding carried carryOut firstOf tooLittleRoom took
-  carried-out g out p h v q t = rw (le-ltb _ _ p, le-ltb _ _ h, v, q .count, q .bytes, t)
+  carried-out g′ p h v q t = rw (le-ltb _ _ p, le-ltb _ _ h, v, q .count, q .bytes, t)
 
   -- with nothing for the list
-  pub carried-untold : (g : Group) (out : S.Group) {w : ℕ} {b′ : List ℕ} → f .told ≡ [] → length (allBytes (f .records)) ≤ length b
-      → view out ≡ f .group → Wrote (allBytes (f .records)) b b′ w
-      → took (record { group = out; answer = f .answer; written = w }) b′ l ≡ carried g f b l
+  pub carried-untold : (g′ : Group) {w : ℕ} {b′ : List ℕ} → f .told ≡ [] → length (allBytes (f .records)) ≤ length b
+      → g′ ≡ f .group → Wrote (allBytes (f .records)) b b′ w
+      → took (record { answer = f .answer; written = w }) g′ b′ l ≡ carried g f b l
   unfolding carried carryOut firstOf tooLittleRoom took overlay
-  carried-untold g out t p v q = rw (t, le-ltb _ _ p, le-ltb (length l) 0 (omega arith), v, q .count, q .bytes)
+  carried-untold g′ t p v q = rw (t, le-ltb _ _ p, le-ltb (length l) 0 (omega arith), v, q .count, q .bytes)

@@ -46,18 +46,18 @@ module _ (f : ℕ → Bool) (i : ℕ) where
   unfolding keep
   picked-end h = ap (keep f) (places-end i h)
 
--- tests that agree on the places pick the same, and what is made of the places picked is the same
+-- tests that agree on the places pick the same; what is made of the places picked is the same, if it is at each of those
 pub keep-same : (f h : ℕ → Bool) (n k : ℕ) → ((p : ℕ) → p < n + k → f p ≡ h p) → keep f (upTo n k) ≡ keep h (upTo n k)
 keep-same f h n k e = select-ext f h n k (λ p _ q. e p q)
 
-pub concat-same : {A : Type 0} (f : ℕ → Bool) (rs ss : ℕ → List A) (n k : ℕ) → ((p : ℕ) → p < n + k → rs p ≡ ss p) → concatMap rs (keep f (upTo n k)) ≡ concatMap ss (keep f (upTo n k))
+pub concat-same : {A : Type 0} (f : ℕ → Bool) (rs ss : ℕ → List A) (n k : ℕ) → ((p : ℕ) → p < n + k → f p ≡ true → rs p ≡ ss p) → concatMap rs (keep f (upTo n k)) ≡ concatMap ss (keep f (upTo n k))
 unfolding keep upTo
 concat-same f rs ss n zero e = refl
-concat-same f rs ss n (suc k) e = go (f n) (concat-same f rs ss (suc n) k (λ p q. e p (omega arith)))
+concat-same f rs ss n (suc k) e = go (f n) refl (concat-same f rs ss (suc n) k (λ p q. e p (omega arith)))
   where
-    go : (x : Bool) → let l = keep f (upTo (suc n) k) in concatMap rs l ≡ concatMap ss l → concatMap rs (if x then n ∷ l else l) ≡ concatMap ss (if x then n ∷ l else l)
-    go true rest = rw (e n (omega arith), rest)
-    go false rest = rest
+    go : (x : Bool) → f n ≡ x → let l = keep f (upTo (suc n) k) in concatMap rs l ≡ concatMap ss l → concatMap rs (if x then n ∷ l else l) ≡ concatMap ss (if x then n ∷ l else l)
+    go true t rest = rw (e n (omega arith) t, rest)
+    go false t rest = rest
 
 -- ---- records place by place
 

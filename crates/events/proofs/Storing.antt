@@ -11,23 +11,21 @@ use Rattle.rules.specs.declared.Refusal.the-variants.{Room}
 use Rattle.rules.specs.declared.Answer.the-variants.{Refused}
 use Rattle.numbers.specs.Buffer.{Wrote, flat}
 use Rattle.records.proofs.Lists.{all-append}
-use Rattle.group.specs.declared.Group as S
-use Rattle.group.specs.View.{view}
 use Rattle.events.specs.declared.Outcome.{Outcome}
 use Rattle.events.specs.Outcomes.{took, carried}
 use Rattle.events.proofs.Carrying.{no-room-records, carried-untold}
 
-module _ (f : Effect) {rs : List Record} (e : rs ≡ f .records) (b l : List ℕ) where
-  pub too-long : {s : S.Group} {r : Outcome} → length b < length (allBytes rs) → r ≡ record { group = s; answer = Refused Room; written = 0 } → took r b l ≡ carried (view s) f b l
-  too-long p q = no-room-records f b l (subst (λ (x : List Record). length b < length (allBytes x)) e p) q
+module _ (f : Effect) {rs : List Record} (e : rs ≡ f .records) (b l : List ℕ) (g : Group) where
+  pub too-long : {r : Outcome} → length b < length (allBytes rs) → r ≡ record { answer = Refused Room; written = 0 } → took r g b l ≡ carried g f b l
+  too-long p q = no-room-records f b l g (subst (λ (x : List Record). length b < length (allBytes x)) e p) q
 
-  pub stored : (g : Group) (r : Outcome) {b′ : List ℕ} → f .told ≡ [] → length (allBytes rs) ≤ length b
-      → r .answer ≡ f .answer → view (r .group) ≡ f .group → Wrote (allBytes rs) b b′ (r .written)
-      → took r b′ l ≡ carried g f b l
+  pub stored : (r : Outcome) (g′ : Group) {b′ : List ℕ} → f .told ≡ [] → length (allBytes rs) ≤ length b
+      → r .answer ≡ f .answer → g′ ≡ f .group → Wrote (allBytes rs) b b′ (r .written)
+      → took r g′ b′ l ≡ carried g f b l
   unfolding took
-  stored g r {b′} t p a v q =
-      (λ i. record { answer = a i; group = view (r .group); written = r .written; buffer = b′; list = l })
-      ∙ carried-untold f b l g (r .group) t (subst (λ (x : List Record). length (allBytes x) ≤ length b) e p) v (subst (λ (x : List Record). Wrote (allBytes x) b b′ (r .written)) e q)
+  stored r g′ {b′} t p a v q =
+      (λ i. record { answer = a i; group = g′; written = r .written; buffer = b′; list = l })
+      ∙ carried-untold f b l g g′ t (subst (λ (x : List Record). length (allBytes x) ≤ length b) e p) v (subst (λ (x : List Record). Wrote (allBytes x) b b′ (r .written)) e q)
 
 -- ---- records that are stored in two parts
 

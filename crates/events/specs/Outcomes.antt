@@ -14,26 +14,25 @@ use Rattle.rules.specs.declared.Refusal.the-variants.{Clock, Room}
 use Rattle.rules.specs.declared.Answer.{Answer}
 use Rattle.rules.specs.declared.Answer.the-variants.{Assigned, Left, Swept, Done, Refused}
 use Rattle.tables.specs.Advances.{ownedOf}
-use Rattle.group.specs.declared.Group as S
-use Rattle.group.specs.View.{view}
 use Rattle.events.specs.declared.Outcome.{Outcome}
 use Rattle.events.specs.declared.Request.{Request}
 
--- what the code handed back, with what the lent buffer and the lent list then hold
-unfoldable pub took : Outcome → List ℕ → List ℕ → Stepped
-took r buffer list = record { answer = r .answer; group = view (r .group); written = r .written; buffer = buffer; list = list }
+-- what the code handed back, with the group, the lent buffer and the lent list as they then are
+unfoldable pub took : Outcome → G.Group → List ℕ → List ℕ → Stepped
+took r g buffer list = record { answer = r .answer; group = g; written = r .written; buffer = buffer; list = list }
 
--- 'Every refusal changes nothing anywhere': after a refusal the group is the very value that went in, and not only one that stands for the same group
-abbrev pub SameIfRefused : Answer → S.Group → S.Group → Type 0
+-- 'Every refusal changes nothing anywhere': after a refusal what was lent is the very value that it was, and not only one that stands for the same group
+abbrev pub SameIfRefused : {A : Type 0} → Answer → A → A → Type 0
 SameIfRefused (Refused why) before after = after ≡ before
 SameIfRefused (Assigned a) before after = Unit {0}
 SameIfRefused Left before after = Unit {0}
 SameIfRefused (Swept n) before after = Unit {0}
 SameIfRefused Done before after = Unit {0}
 
--- the outcome of an event that was given the group g
-abbrev pub RefusalKeeps : S.Group → Outcome → Type 0
-RefusalKeeps g r = SameIfRefused (r .answer) g (r .group)
+-- an event that was lent a part of a group, of which `shows` says which group it is with the rest: a refusal left the part as it was, every entry of it; and
+-- whatever the rest is, the answer, the group, the buffer and the list are what `step` makes of the group
+abbrev pub Becomes : {Rest Part : Type 0} → (Rest → Part → G.Group) → Outcome → Part → Part → List ℕ → List ℕ → (G.Group → Stepped) → Type 0
+Becomes {Rest} shows r before after buffer list step = SameIfRefused (r .answer) before after × ((rest : Rest) → took r (shows rest after) buffer list ≡ step (shows rest before))
 
 abbrev pub givenSubscription : Bool → ℕ → Option ℕ
 givenSubscription given topics = if given then some topics else none

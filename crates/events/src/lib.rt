@@ -7,15 +7,12 @@ pub mod rows; // rows.rt: rows of more than one kind of heartbeat
 pub use answers::Said;
 pub use answers::number_of;
 pub use answers::what_is_said;
-use group::Group;
 use rules::Answer;
 use rules::Id;
 use rules::Refusal;
 
-// What an event comes to: the group after it, the answer, and how many bytes of records were written to the buffer.
-#[repr(C)]
+// What an event comes to: the answer, and how many bytes of records were written to the buffer. The group is where it was.
 pub struct Outcome {
-    pub group: Group,
     pub answer: Answer,
     pub written: usize,
 }
@@ -32,12 +29,11 @@ pub struct Request {
     pub has_list: bool,
 }
 
-// A refusal: the group as it was, and nothing written.
-pub fn refused(g: Group, why: Refusal) -> Outcome
-    ensures { λ r. ⌜ r ≡ record { group = g; answer = Answer.Refused why; written = 0 } ⌝ }
+// A refusal: nothing written.
+pub fn refused(why: Refusal) -> Outcome
+    ensures { λ r. ⌜ r ≡ record { answer = Answer.Refused why; written = 0 } ⌝ }
 {
     Outcome {
-        group: g,
         answer: Answer::Refused(why),
         written: 0,
     }

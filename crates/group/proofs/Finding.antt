@@ -1,22 +1,22 @@
--- What a caller learns from a search of the places: the answer's case says whether there is such a place, and the seat at the place
--- where a member was found is that member's. Assumes nothing.
+-- What a caller learns from a search of the places: the answer's case says whether there is such a place, and the seat at the place where a member was found is
+-- that member's.
 use Prim.Native.Nat.{ℕ}
 use mathlib.Core.Path.{_≡_, refl, sym, ap, _∙_, subst}
 use mathlib.Core.Bool.{Bool, true, false}
-use mathlib.Core.List.{List, map}
+use mathlib.Core.List.{List}
 use mathlib.Core.Option.{none, some}
 use lib.ListN.{getD}
-use Rattle.rules.specs.Basics.{if_then_else_, any, default, find}
+use Rattle.rules.specs.Basics.{if_then_else_, any, find}
 use Rattle.rules.specs.Group as G
-use Rattle.rules.specs.Group.{isMember, known, placeOf, memberAt, vacant, lowestFree}
+use Rattle.rules.specs.Group.{isMember}
 use Rattle.rules.specs.declared.Place.{Place}
 use Rattle.rules.proofs.Lists.{find-holds, same-eq}
 use Rattle.group.specs.declared.Found.{Found}
 use Rattle.group.specs.declared.Found.the-variants.{At, Nowhere}
-use Rattle.group.specs.declared.Group.{Group}
-use Rattle.group.specs.declared.Seat.{Seat}
-use Rattle.group.specs.View.{view, viewSeat, seated}
+use Rattle.group.specs.Columns.{viewMembers, seatAt}
+use Rattle.group.specs.View.{viewSeat, seated}
 use Rattle.group.specs.Searches.{Hit, Finds}
+use Rattle.group.proofs.Columns.{seat-is}
 
 -- ---- by the case of the answer
 
@@ -29,17 +29,6 @@ module _ {there : Bool} {r : Found} where
   unfolding Finds
   miss place e f = subst (Finds there place) e f
 
--- ---- in the group that has the seats
-
-module _ (g : Group) where
-  pub known-in : (id : List ℕ) (r : Found) → Finds (any (isMember id) (map viewSeat (g .seats))) (find (isMember id) (map viewSeat (g .seats))) r → Finds (known (view g) id) (placeOf (view g) id) r
-  unfolding known placeOf view
-  known-in id r f = f
-
-  pub free-in : (r : Found) → Finds (any vacant (map viewSeat (g .seats))) (find vacant (map viewSeat (g .seats))) r → Finds (any vacant (view g .members)) (lowestFree (view g)) r
-  unfolding lowestFree view
-  free-in r f = f
-
 -- ---- the member that was found
 
 used-of : (id : List ℕ) (u : Bool) (m : G.Member) → isMember id (if u then some m else none) ≡ true → u ≡ true
@@ -47,22 +36,20 @@ unfolding isMember
 used-of id true m h = refl
 used-of id false m h = h
 
--- s is the seat at the place, as `seat_at` gives it
-module _ (g : Group) (id : List ℕ) {p : ℕ} (h : Hit (known (view g) id) (placeOf (view g) id) p) (s : Seat) (e : viewSeat s ≡ getD (map viewSeat (g .seats)) p none) where
-  pub found-id : isMember id (viewSeat s) ≡ true
-  unfolding known placeOf view
+module _ (ms id : List ℕ) {p : ℕ} (h : Hit (any (isMember id) (viewMembers ms)) (find (isMember id) (viewMembers ms)) p) where
+  found-id : isMember id (viewSeat (seatAt ms p)) ≡ true
   found-id =
-      ap (isMember id) (e ∙ ap (λ (q : ℕ). getD (map viewSeat (g .seats)) q none) (sym (h .first)))
-      ∙ find-holds (isMember id) (map viewSeat (g .seats)) none (h .found)
+      ap (isMember id) (seat-is ms p ∙ ap (λ (q : ℕ). getD (viewMembers ms) q none) (sym (h .first)))
+      ∙ find-holds (isMember id) (viewMembers ms) none (h .found)
 
-  pub found-used : s .used ≡ true
+  pub found-used : seatAt ms p .used ≡ true
   unfolding viewSeat
-  found-used = used-of id (s .used) (seated s) found-id
+  found-used = used-of id (seatAt ms p .used) (seated (seatAt ms p)) found-id
 
-  pub found-same : s .id ≡ id
+  pub found-same : seatAt ms p .id ≡ id
   unfolding isMember viewSeat
-  found-same = same-eq (s .id) id (rw found-used at found-id)
+  found-same = same-eq (seatAt ms p .id) id (rw found-used at found-id)
 
-  pub found-member : memberAt (view g) p ≡ seated s
-  unfolding memberAt view viewSeat
-  found-member = ap (default _) (sym e) ∙ rw found-used
+  pub found-member : getD (viewMembers ms) p none ≡ some (seated (seatAt ms p))
+  unfolding viewSeat
+  found-member = sym (seat-is ms p) ∙ rw found-used

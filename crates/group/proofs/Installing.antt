@@ -1,29 +1,26 @@
 -- The entries of an install: the test over two lists of numbers is the rules' test of the group, and a loop finds the first that it refuses.
 -- Assumes nothing.
-use Prim.Native.Nat.{ℕ, zero, suc, _+_, _/_, _%_, _^_, _≤_, _<_}
+use Prim.Native.Nat.{ℕ, suc, _+_, _/_, _%_, _^_, _≤_, _<_}
 use native.Mathlib.Omega.{arith}
 use native.Mathlib.Nat.{div-eq-of-lt}
 use native.Mathlib.Numerals.{add-one}
 use mathlib.Core.Path.{_≡_, refl, sym, ap, ap₂, _∙_}
 use mathlib.Core.Bool.{Bool, true, false}
-use mathlib.Core.List.{List, [], _∷_}
-use mathlib.Core.Option.{none, some}
-use lib.Dec.{eqb, ltb}
+use mathlib.Core.List.{List, [], _∷_, map}
+use mathlib.Core.Option.{Option, none, some}
+use lib.Dec.{ltb}
 use lib.ListN.{length, getD, drop, drop-of-length-le, List·getD-map}
 use lib.Seq.{drop-cons}
 use lib.Pow.{pow-pos, pow-mono}
-use borrow.Author.Tests.{ne-eqb, le-ltb}
 use Rattle.rules.specs.Basics.{firstWith, if_then_else_}
 use Rattle.rules.specs.Constants.{maxPartitions, topicCount}
 use Rattle.rules.specs.Group as G
 use Rattle.rules.specs.Group.{includesTopic, subscribes, belowCount, exists}
-use Rattle.rules.specs.Refusals.{badEntry}
-use Rattle.group.specs.declared.Group.{Group}
-use Rattle.group.specs.declared.Seat.{Seat}
-use Rattle.group.specs.declared.Topic.{Topic}
-use Rattle.group.specs.View.{view, viewSeat, viewTopic, seated}
-use Rattle.group.specs.Entries.{counts, countOf, subscriptions, subscriptionOf, entryBad}
-use Rattle.group.proofs.Views.{no-topic, no-seat, topic-at, seat-at}
+use Rattle.rules.specs.Refusals.{badEntry, firstBad}
+use Rattle.group.specs.View.{viewTopics}
+use Rattle.group.specs.Entries.{subscriptionOf, entryBad}
+use Rattle.group.specs.Topics.{idAt}
+use Rattle.group.proofs.Numbering.{topic-at, below-is}
 
 -- ---- bits of a subscription
 
@@ -39,47 +36,40 @@ none-subscribed t = no-bit t 0 (pow-pos t)
 pub past-topics : (t w : ℕ) → w < 2 ^ topicCount → topicCount ≤ t → includesTopic t w ≡ false
 past-topics t w h q = no-bit t w (let m = pow-mono q in omega arith)
 
--- ---- the two lists
+pub subscribes-is : (t : ℕ) (m : Option G.Member) → subscribes t m ≡ includesTopic t (subscriptionOf m)
+unfolding subscribes subscriptionOf
+subscribes-is t none = sym (none-subscribed t)
+subscribes-is t (some m) = refl
 
-below-is : (t : Topic) (n : ℕ) → belowCount n (viewTopic t) ≡ ltb n (t .count)
-unfolding belowCount viewTopic
-below-is t n = go (t .count) (t .id)
-  where
-    go : (k : ℕ) (id : List ℕ) → belowCount n (if eqb k 0 then none else some (record { id = id; count = k })) ≡ ltb n k
-    go zero id = sym (le-ltb n 0 (omega arith))
-    go (suc k) id = let z : eqb (suc k) 0 ≡ false = ne-eqb (suc k) 0 (λ q. omega arith) in rw z
+-- ---- the two lists, of a group that has these counts and these members
 
-subscribes-is : (s : Seat) (t : ℕ) → subscribes t (viewSeat s) ≡ includesTopic t (subscriptionOf s)
-unfolding subscribes viewSeat
-subscribes-is s t = go (s .used) (seated s)
-  where
-    go : (u : Bool) (m : G.Member) → subscribes t (if u then some m else none) ≡ includesTopic t (if u then m .subscription else 0)
-    go true m = refl
-    go false m = sym (none-subscribed t)
+pub subscriptions-at : (l : List (Option G.Member)) (p : ℕ) → getD (map subscriptionOf l) p 0 ≡ subscriptionOf (getD l p none)
+unfolding subscriptionOf
+subscriptions-at l p = List·getD-map subscriptionOf l p none
 
-module _ (g : Group) where
-  exists-is : (s : ℕ) → exists (view g) s ≡ ltb (s % maxPartitions) (getD (counts (g .topics)) (s / maxPartitions) 0)
-  unfolding exists view counts
+module _ (g : G.Group) (ids cs : List ℕ) (n : length cs ≡ topicCount) (topics : g .topics ≡ viewTopics ids cs) where
+  exists-is : (s : ℕ) → exists g s ≡ ltb (s % maxPartitions) (getD cs (s / maxPartitions) 0)
+  unfolding exists
   exists-is s =
-      ap (belowCount (s % maxPartitions)) (topic-at (g .topics) (s / maxPartitions))
-      ∙ below-is (getD (g .topics) (s / maxPartitions) no-topic) (s % maxPartitions)
-      ∙ ap (ltb (s % maxPartitions)) (sym (List·getD-map countOf (g .topics) (s / maxPartitions) no-topic))
+      ap (λ (l : List (Option G.Topic)). belowCount (s % maxPartitions) (getD l (s / maxPartitions) none)) topics
+      ∙ ap (belowCount (s % maxPartitions)) (topic-at ids cs (s / maxPartitions) n)
+      ∙ below-is (s % maxPartitions) (idAt ids (s / maxPartitions)) (getD cs (s / maxPartitions) 0)
 
-  subscriber-is : (t p : ℕ) → subscribes t (getD (view g .members) p none) ≡ includesTopic t (getD (subscriptions (g .seats)) p 0)
-  unfolding view subscriptions
-  subscriber-is t p =
-      ap (subscribes t) (seat-at (g .seats) p)
-      ∙ subscribes-is (getD (g .seats) p no-seat) t
-      ∙ ap (includesTopic t) (sym (List·getD-map subscriptionOf (g .seats) p no-seat))
+  subscriber-is : (t p : ℕ) → subscribes t (getD (g .members) p none) ≡ includesTopic t (getD (map subscriptionOf (g .members)) p 0)
+  subscriber-is t p = subscribes-is t (getD (g .members) p none) ∙ ap (includesTopic t) (sym (subscriptions-at (g .members) p))
 
-  pub entry-is : (s e : ℕ) → entryBad (counts (g .topics)) (subscriptions (g .seats)) s e ≡ badEntry (view g) s e
+  entry-is : (s e : ℕ) → entryBad cs (map subscriptionOf (g .members)) s e ≡ badEntry g s e
   unfolding entryBad badEntry
   entry-is s e = rw (exists-is s, subscriber-is (s / maxPartitions) e)
 
-  pub first-is : (s : ℕ) (es : List ℕ) → firstWith (entryBad (counts (g .topics)) (subscriptions (g .seats))) s es ≡ firstWith (badEntry (view g)) s es
+  first-is : (s : ℕ) (es : List ℕ) → firstWith (entryBad cs (map subscriptionOf (g .members))) s es ≡ firstWith (badEntry g) s es
   unfolding firstWith
   first-is s [] = refl
-  first-is s (e ∷ es) = ap₂ (λ (b : Bool) (n : ℕ). if b then s else n) (entry-is s e) (first-is (suc s) es)
+  first-is s (e ∷ es) = ap₂ (λ (b : Bool) (m : ℕ). if b then s else m) (entry-is s e) (first-is (suc s) es)
+
+  pub first-bad-is : (l : List (Option G.Member)) → g .members ≡ l → (es : List ℕ) → firstWith (entryBad cs (map subscriptionOf l)) 0 es ≡ firstBad g es
+  unfolding firstBad
+  first-bad-is l e es = ap (λ (m : List (Option G.Member)). firstWith (entryBad cs (map subscriptionOf m)) 0 es) (sym e) ∙ first-is 0 es
 
 -- ---- the loop
 

@@ -1,8 +1,11 @@
+pub mod Bytes
+pub mod Columns
 pub mod Filling
 pub mod Finding
 pub mod Installing
-pub mod Rising
+pub mod Numbering
+pub mod PlaceTests
+pub mod Putting
 pub mod Rows
-pub mod Searching
 pub mod Signed
-pub mod Views
+pub mod Spelling

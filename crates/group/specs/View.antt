@@ -1,15 +1,17 @@
--- The group of the rules that a value of the crate's struct stands for.
-use Prim.Native.Nat.{ℕ}
-use mathlib.Core.List.{map}
+-- The group of the rules that the struct stands for: every value of the struct stands for one.
+use Prim.Native.Nat.{ℕ, _*_}
+use mathlib.Core.Bool.{Bool}
+use mathlib.Core.List.{List, map}
 use mathlib.Core.Option.{Option, none, some}
 use lib.Dec.{eqb}
-use lib.ListN.{set}
-use Rattle.rules.specs.Basics.{if_then_else_}
+use lib.ListN.{getD, take, drop}
+use Rattle.rules.specs.Basics.{if_then_else_, upTo}
+use Rattle.rules.specs.Constants.{topicCount, idLength}
 use Rattle.rules.specs.Group as G
-use Rattle.tables.specs.View.{viewTables}
+use Rattle.tables.specs.View.{viewLists}
+use Rattle.group.specs.Columns.{viewMembers}
 use Rattle.group.specs.declared.Group.{Group}
 use Rattle.group.specs.declared.Seat.{Seat}
-use Rattle.group.specs.declared.Topic.{Topic}
 
 -- the member at a seat that is used
 abbrev pub seated : Seat → G.Member
@@ -19,26 +21,23 @@ seated s = record { id = s .id; epoch = s .epoch; subscription = s .subscription
 unfoldable pub viewSeat : Seat → Option G.Member
 viewSeat s = if s .used then some (seated s) else none
 
-unfoldable pub viewTopic : Topic → Option G.Topic
-viewTopic t = if eqb (t .count) 0 then none else some (record { id = t .id; count = t .count })
+-- the topic of a number: with count 0 there is none
+unfoldable pub viewTopic : List ℕ → List ℕ → ℕ → Option G.Topic
+viewTopic ids counts t = if eqb (getD counts t 0) 0 then none else some (record { id = take idLength (drop (t * idLength) ids); count = getD counts t 0 })
+
+unfoldable pub viewTopics : List ℕ → List ℕ → List (Option G.Topic)
+viewTopics ids counts = map (viewTopic ids counts) (upTo 0 topicCount)
+
+-- the group that has these topics; the head is the group epoch, the target epoch and the last tick
+unfoldable pub viewWith : List (Option G.Topic) → List ℕ → List ℕ → List ℕ → List ℕ → List Bool → G.Group
+viewWith topics head members target holder waiting = record {
+  epoch = getD head 0 0;
+  targetEpoch = getD head 1 0;
+  tick = getD head 2 0;
+  topics = topics;
+  members = viewMembers members;
+  slots = viewLists target holder waiting;
+}
 
 unfoldable pub view : Group → G.Group
-view g = record {
-  epoch = g .epoch;
-  targetEpoch = g .«target_epoch»;
-  tick = g .tick;
-  topics = map viewTopic (g .topics);
-  members = map viewSeat (g .seats);
-  slots = viewTables (g .tables);
-}
-
--- the group with another entry of its topics, which may be none, and another group epoch
-unfoldable pub withEntry : G.Group → ℕ → Option G.Topic → ℕ → G.Group
-withEntry g number topic epoch = record {
-  epoch = epoch;
-  targetEpoch = g .targetEpoch;
-  tick = g .tick;
-  topics = set (g .topics) number topic;
-  members = g .members;
-  slots = g .slots;
-}
+view g = viewWith (viewTopics (g .«topic_ids») (g .«topic_counts»)) (g .head) (g .members) (g .target) (g .holder) (g .waiting)

@@ -1,60 +1,55 @@
 // The entries of an install: the first slot whose entry row 1006 refuses.
-// The entries are tried against two arrays of numbers that are made once, so that the loop over 1,024 slots copies no group.
+// The entries are tried against the topics' counts and the subscription at each place, which is gathered once, so that the loop over 1,024 slots copies nothing.
+// An array taken as a slice has no code: it tells the prover the array's length.
 ghost use mathlib.Core.Path.{_≡_};
+ghost use mathlib.Core.List.{List, map};
+ghost use Prim.Native.Nat.{ℕ};
+ghost use lib.ListN.{length};
 ghost use Rattle.rules.specs.Basics.{firstWith};
+ghost use Rattle.rules.specs.Constants.{maxMembers, topicCount};
+ghost use Rattle.rules.specs.Group.{Group};
 ghost use Rattle.rules.specs.Refusals.{firstBad};
-ghost use Rattle.group.specs.View.{view};
-ghost use Rattle.group.specs.Entries.{counts, subscriptionOf, subscriptions, entryBad};
-use crate::Group;
-use crate::Seat;
-use crate::Topic;
+ghost use Rattle.group.specs.Columns.{viewMembers};
+ghost use Rattle.group.specs.View.{viewTopics};
+ghost use Rattle.group.specs.Entries.{subscriptionOf, entryBad};
+use crate::CELLS;
+use crate::subscribers;
 use rules::MEMBERS;
 use rules::NO_PLACE;
 use rules::PARTITIONS;
 use rules::TOPICS;
 
-// The count of each topic, 0 where there is none.
-fn counts_of(topics: [Topic; TOPICS]) -> [u8; TOPICS]
-    ensures { λ r. ⌜ r ≡ counts topics ⌝ }
-{
-    let mut all = [0u8; TOPICS];
-    let mut i: usize = 0;
-    while i < TOPICS {
-        let t = topics[i];
-        all[i] = t.count;
-        i += 1;
-    }
-    all
-}
-
-// The subscription at a place, 0 where no member is.
-fn subscription_of(s: Seat) -> u16
-    ensures { λ r. ⌜ r ≡ subscriptionOf s ⌝ }
-{
-    if s.used {
-        return s.subscription;
-    }
-    0
-}
-
-// The subscription at each place.
-fn subscriptions_of(seats: [Seat; MEMBERS]) -> [u16; MEMBERS]
-    ensures { λ r. ⌜ r ≡ subscriptions seats ⌝ }
+// The subscription at each place, 0 where no member is.
+fn subscriptions_of(members: &[u32; CELLS]) -> [u16; MEMBERS]
+    ensures { λ r. ⌜ r ≡ map subscriptionOf (viewMembers (now (members .entry))) ⌝ }
 {
     let mut all = [0u16; MEMBERS];
-    let mut i: usize = 0;
-    while i < MEMBERS {
-        let s = seats[i];
-        all[i] = subscription_of(s);
-        i += 1;
+    let mut k: usize = 0;
+    while k < MEMBERS {
+        all[k] = subscribers::subscription_at(members, k);
+        k += 1;
     }
     all
+}
+
+// The two arrays have their lengths. No code.
+fn whole<'a>(counts: &'a [u8; TOPICS], subscriptions: &'a [u16; MEMBERS])
+    ensures { λ r. ⌜ (length (now (counts .entry)) ≡ topicCount) × (length (now (subscriptions .entry)) ≡ maxMembers) ⌝ }
+{
+    let c: &[u8] = counts;
+    let s: &[u16] = subscriptions;
 }
 
 // Whether an entry may not stand at a slot: it is a place, and the slot does not exist or no member there subscribes to its topic.
-fn is_bad_entry(counts: [u8; TOPICS], subscriptions: [u16; MEMBERS], slot: usize, entry: u8) -> bool
-    ensures { λ r. ⌜ r ≡ entryBad counts subscriptions slot entry ⌝ }
+fn is_bad_entry<'a>(
+    counts: &'a [u8; TOPICS],
+    subscriptions: &'a [u16; MEMBERS],
+    slot: usize,
+    entry: u8,
+) -> bool
+    ensures { λ r. ⌜ r ≡ entryBad (now (counts .entry)) (now (subscriptions .entry)) slot entry ⌝ }
 {
+    whole(counts, subscriptions);
     if entry == NO_PLACE {
         return false;
     }
@@ -66,8 +61,8 @@ fn is_bad_entry(counts: [u8; TOPICS], subscriptions: [u16; MEMBERS], slot: usize
     if MEMBERS <= place {
         return true;
     }
-    let count = counts[topic] as usize;
-    if count <= slot % PARTITIONS {
+    let partition = (slot % PARTITIONS) as u8;
+    if counts[topic] <= partition {
         return true;
     }
     let subscription = subscriptions[place];
@@ -75,8 +70,12 @@ fn is_bad_entry(counts: [u8; TOPICS], subscriptions: [u16; MEMBERS], slot: usize
 }
 
 // The first slot whose entry may not stand, or the number of entries.
-fn first_bad_of(counts: [u8; TOPICS], subscriptions: [u16; MEMBERS], entries: &[u8]) -> usize
-    ensures { λ r. ⌜ r ≡ firstWith (entryBad counts subscriptions) 0 (now (entries .entry)) ⌝ }
+fn first_bad_of<'a>(
+    counts: &'a [u8; TOPICS],
+    subscriptions: &'a [u16; MEMBERS],
+    entries: &[u8],
+) -> usize
+    ensures { λ r. ⌜ r ≡ firstWith (entryBad (now (counts .entry)) (now (subscriptions .entry))) 0 (now (entries .entry)) ⌝ }
 {
     let mut slot: usize = 0;
     while slot < entries.len() {
@@ -90,12 +89,10 @@ fn first_bad_of(counts: [u8; TOPICS], subscriptions: [u16; MEMBERS], entries: &[
 }
 
 // Row 1006: the first slot whose entry may not stand, or the number of entries where all may.
-pub fn first_bad(g: Group, entries: &[u8]) -> usize
-    ensures { λ r. ⌜ r ≡ firstBad (view g) (now (entries .entry)) ⌝ }
+pub fn first_bad<'a>(members: &'a [u32; CELLS], counts: &'a [u8; TOPICS], entries: &[u8]) -> usize
+    ensures { λ r. ⌜ ((g : Group) (ids : List ℕ) → g .topics ≡ viewTopics ids (now (counts .entry)) → g .members ≡ viewMembers (now (members .entry)) → r ≡ firstBad g (now (entries .entry))) ⌝ }
 {
-    let topics = g.topics;
-    let seats = g.seats;
-    let counts = counts_of(topics);
-    let subscriptions = subscriptions_of(seats);
-    first_bad_of(counts, subscriptions, entries)
+    let all: &[u8] = counts;
+    let subscriptions = subscriptions_of(members);
+    first_bad_of(counts, &subscriptions, entries)
 }

@@ -1,23 +1,8 @@
 // IDs of members and topics: sixteen bytes, never all zero.
 ghost use mathlib.Core.Path.{_≡_};
-ghost use Rattle.rules.specs.Basics.{same};
 ghost use Rattle.rules.specs.Refusals.{zeroId};
 use rules::ID_LENGTH;
 use rules::Id;
-
-// Whether two IDs are equal.
-pub fn same_id(a: Id, b: Id) -> bool
-    ensures { λ r. ⌜ r ≡ same a b ⌝ }
-{
-    let mut i: usize = 0;
-    while i < ID_LENGTH {
-        if a[i] != b[i] {
-            return false;
-        }
-        i += 1;
-    }
-    true
-}
 
 // Whether an ID is all zero, which no member or topic may have.
 pub fn is_zero(id: Id) -> bool

@@ -1,8 +1,10 @@
-// A group as a value: its topics, its members at their places, and the tables of its slots.
-// What the value stands for is `view` of specs/. No public function here has a `requires`: every value of a group is a group of the rules.
+// The group as it lies in memory: numbers and arrays of numbers alone, so that every part of it can be lent.
+// What the struct stands for is `view` of specs/, and every value of it stands for a group of the rules. A function that only reads is lent what it reads, and
+// one that changes the group is lent what it changes.
 ghost use mathlib.Core.Path.{_≡_};
 ghost use Rattle.rules.specs.Group.{fresh};
 ghost use Rattle.group.specs.View.{view};
+ghost use Rattle.group.specs.Parts.{before, Whole};
 use rules::ID_LENGTH;
 use rules::Id;
 use rules::MEMBERS;
@@ -10,27 +12,57 @@ use rules::NO_PLACE;
 use rules::Place;
 use rules::SLOTS;
 use rules::TOPICS;
-use tables::Tables;
+pub use search::CELLS;
 
-pub mod changes; // changes.rt: the group with a part of it replaced
 pub mod entries; // entries.rt: the entries of an install, tried against topics and members
 pub mod epochs; // epochs.rt: group epochs and their largest value
-pub mod ids; // ids.rt: IDs compared
+pub mod ids; // ids.rt: the zero ID
 pub mod member; // member.rt: the member of 01 with its sets, and its transitions
+pub mod members; // members.rt: members in columns; a seat gathered at a place and put back
 pub mod requests; // requests.rt: the timeout and the list of a heartbeat
-pub mod seats; // seats.rt: places and the members at them
+pub mod subscribers; // subscribers.rt: tests over the columns: who subscribes, and whom a sweep removes
 pub mod ticks; // ticks.rt: elapsed time
 pub mod topics; // topics.rt: topics and row 1007
+pub mod words; // words.rt: an ID as four words, as the columns have it
 
-// A topic of some number; with count 0 there is none.
+// Where the columns after the ID's begin.
+pub const MEMBER_EPOCH: usize = 4 * MEMBERS;
+
+pub const SUBSCRIPTION: usize = 5 * MEMBERS;
+
+pub const TIMEOUT: usize = 6 * MEMBERS;
+
+pub const HEARD: usize = 7 * MEMBERS;
+
+pub const REVOKED_AT: usize = 8 * MEMBERS;
+
+// How many subscriptions there are: sets of topics.
+pub const SUBSCRIPTIONS: u32 = 1 << TOPICS;
+
+// The bytes of the topics' IDs, one ID after another.
+pub const TOPIC_BYTES: usize = TOPICS * ID_LENGTH;
+
+// What stands where in the head.
+pub const EPOCH: usize = 0;
+
+pub const TARGET_EPOCH: usize = 1;
+
+pub const TICK: usize = 2;
+
 #[repr(C)]
-pub struct Topic {
-    pub id: Id,
-    pub count: u8,
+pub struct Group {
+    // the group epoch, the target epoch, the last tick
+    pub head: [u32; 3],
+    pub members: [u32; CELLS],
+    pub topic_ids: [u8; TOPIC_BYTES],
+    // with count 0 there is no topic of the number
+    pub topic_counts: [u8; TOPICS],
+    pub target: [u8; SLOTS],
+    pub holder: [u8; SLOTS],
+    pub waiting: [bool; SLOTS],
 }
 
 // A place and, where it is `used`, the member at it: without its slots, which stand in the tables.
-#[repr(C)]
 pub struct Seat {
     pub id: Id,
     pub epoch: u32,
@@ -39,16 +71,6 @@ pub struct Seat {
     pub heard: u32,
     pub revoked_at: u32,
     pub used: bool,
-}
-
-#[repr(C)]
-pub struct Group {
-    pub epoch: u32,
-    pub target_epoch: u32,
-    pub tick: u32,
-    pub topics: [Topic; TOPICS],
-    pub seats: [Seat; MEMBERS],
-    pub tables: Tables,
 }
 
 // What a heartbeat with some epoch asks for.
@@ -69,29 +91,31 @@ pub enum Found {
 pub fn fresh(tick: u32) -> Group
     ensures { λ r. ⌜ view r ≡ fresh tick ⌝ }
 {
-    let id = [0u8; ID_LENGTH];
-    let no_topic = Topic { id: id, count: 0 };
-    let vacant = Seat {
-        id: id,
-        epoch: 0,
-        subscription: 0,
-        timeout: 0,
-        heard: 0,
-        revoked_at: 0,
-        used: false,
-    };
-    // 01: 'holder and target tables as [255; 1024]'.
-    let tables = Tables {
+    Group {
+        head: [0, 0, tick],
+        members: [0; CELLS],
+        topic_ids: [0; TOPIC_BYTES],
+        topic_counts: [0; TOPICS],
+        // 01: 'holder and target tables as [255; 1024]'.
         target: [NO_PLACE; SLOTS],
         holder: [NO_PLACE; SLOTS],
         waiting: [false; SLOTS],
-    };
-    Group {
-        epoch: 0,
-        target_epoch: 0,
-        tick: tick,
-        topics: [no_topic; TOPICS],
-        seats: [vacant; MEMBERS],
-        tables: tables,
     }
+}
+
+// Every lent part has its length: behind a slice the prover knows it. No code.
+pub fn whole<'a>(
+    head: &'a [u32; 3],
+    members: &'a [u32; CELLS],
+    target: &'a [u8; SLOTS],
+    holder: &'a [u8; SLOTS],
+    waiting: &'a [bool; SLOTS],
+)
+    ensures { λ r. ⌜ Whole (before head members target holder waiting) ⌝ }
+{
+    let h: &[u32] = head;
+    let m: &[u32] = members;
+    let t: &[u8] = target;
+    let o: &[u8] = holder;
+    let w: &[bool] = waiting;
 }

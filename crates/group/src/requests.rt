@@ -2,7 +2,7 @@
 ghost use mathlib.Core.Path.{_≡_};
 ghost use Rattle.rules.specs.Refusals.{badTimeout, noTimeout, timeoutOr, badList};
 use rules::MAX_TIMEOUT;
-use rules::SLOT_END;
+use search::rising;
 
 // Whether a timeout is neither -1 nor 1 to 1,800,000.
 pub fn is_bad_timeout(t: i32) -> bool
@@ -38,18 +38,5 @@ pub fn timeout_or(t: i32, had: u32) -> u32
 pub fn is_bad_list(list: &[u16]) -> bool
     ensures { λ r. ⌜ r ≡ badList (now (list .entry)) ⌝ }
 {
-    let mut from: u16 = 0;
-    let mut i: usize = 0;
-    while i < list.len() {
-        let x = list[i];
-        if x < from {
-            return true;
-        }
-        if SLOT_END <= x {
-            return true;
-        }
-        from = x + 1;
-        i += 1;
-    }
-    false
+    !rising::is_slot_set(list)
 }

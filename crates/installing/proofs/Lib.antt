@@ -1,2 +1,4 @@
-pub mod Installs
 pub mod Targets
+pub mod Linking
+pub mod Bounds
+pub mod Installs

@@ -1,33 +1,34 @@
 // A join: a heartbeat with epoch 0. A known member keeps its place, another takes the lowest free one; either starts there with no slots and no target,
 // at the group epoch that its join raises.
 ghost use mathlib.Core.Path.{_≡_};
-ghost use mathlib.Core.Bool.{true, _&&_, _||_};
-ghost use mathlib.Core.List.{List};
-ghost use Prim.Native.Nat.{ℕ, _<_};
+ghost use mathlib.Core.Bool.{true, _||_};
+ghost use mathlib.Core.List.{List, map};
+ghost use Prim.Native.Nat.{ℕ};
 ghost use Rattle.rules.specs.Basics.{any, default};
-ghost use Rattle.rules.specs.Constants.{lastEpoch};
 ghost use Rattle.rules.specs.Event as E;
+ghost use Rattle.rules.specs.Group as G;
 ghost use Rattle.rules.specs.Group.{targeted};
-ghost use Rattle.rules.specs.Refusals.{joins, malformed, lacking};
-ghost use Rattle.rules.specs.Effects.{joinAt};
-ghost use Rattle.tables.specs.View.{viewTables};
+ghost use Rattle.rules.specs.Refusals.{joins, malformed, lacking, timeoutOr};
+ghost use Rattle.rules.specs.Effects.{joinAt, vacated};
+ghost use Rattle.tables.specs.View.{slotsBefore, slotsAfter};
+ghost use Rattle.group.specs.Columns.{viewMembers, seatAt};
 ghost use Rattle.group.specs.Members.{joinedAs};
-ghost use Rattle.group.specs.declared.Group as S;
-ghost use Rattle.group.specs.View.{view};
-ghost use Rattle.events.specs.Outcomes.{took, RefusalKeeps, givenSubscription, requestOf, carried, stepAs};
-ghost use Rattle.joining.specs.Joining.{Chooses};
+ghost use Rattle.group.specs.Parts.{before, after, viewParts};
+ghost use Rattle.events.specs.Outcomes.{Becomes, givenSubscription, requestOf, carried, stepAs};
+ghost use Rattle.joining.specs.Joining.{Chooses, Ready, metadataIn};
 use events::Outcome;
 use events::Request;
 use events::refused;
 use events::rows;
+use group::CELLS;
+use group::EPOCH;
 use group::Found;
-use group::Group;
 use group::Seat;
-use group::changes;
+use group::TICK;
 use group::epochs;
 use group::member::Member;
+use group::members;
 use group::requests;
-use group::seats;
 use group::ticks;
 use records::batches;
 use records::kinds::MemberMetadata;
@@ -35,21 +36,16 @@ use rules::Answer;
 use rules::Assignment;
 use rules::HEARTBEAT_INTERVAL;
 use rules::Id;
-use rules::MEMBERS;
 use rules::Place;
 use rules::Refusal;
-use tables::Tables;
+use rules::SLOTS;
+use slots::SlotSet;
+use tables::bools;
 
 // Where a member joins, and whether it is known: the place is then its own.
 struct Choice {
     place: Found,
     known: bool,
-}
-
-// The seat of a member that joins, and whether it loses a target.
-struct Joiner {
-    seat: Seat,
-    retargets: bool,
 }
 
 // The second part of row 42: whether a join lacks a subscription, a timeout or an empty list.
@@ -78,18 +74,18 @@ fn is_bad_join(b: Request, owned: &[u16]) -> bool
     is_lacking(b, owned)
 }
 
-// The place at which a member with an ID joins, in every group that has these seats.
-fn choose_place(places: [Seat; MEMBERS], id: Id) -> Choice
-    ensures { λ r. ⌜ ((g : S.Group) (b : E.Request) → g .seats ≡ places → b .id ≡ id → Chooses (view g) b r) ⌝ }
+// The place at which a member with an ID joins, in every group that has these members.
+fn choose_place(members: &[u32; CELLS], id: Id) -> Choice
+    ensures { λ r. ⌜ ((g : G.Group) (b : E.Request) → g .members ≡ viewMembers (now (members .entry)) → b .id ≡ id → Chooses g b r) ⌝ }
 {
-    let own = seats::find_member(places, id);
+    let own = members::find(members, id);
     match own {
         Found::At(p) => Choice {
             place: own,
             known: true,
         },
         Found::Nowhere => {
-            let free = seats::find_vacant(places);
+            let free = members::find_vacant(members);
             Choice {
                 place: free,
                 known: false,
@@ -108,67 +104,82 @@ fn given_subscription(b: Request) -> u16
     0
 }
 
-// The member that joins at place p, where the seat was `had`: a known one joins again, with no slots; another is new, and has no target to lose, so that
-// the tables are gathered only for a known one.
-fn joiner_at(
-    tables: Tables,
-    had: Seat,
-    p: Place,
-    known: bool,
-    b: Request,
-    epoch: u32,
-    subscription: u16,
-    timeout: u32,
-) -> Joiner
-    requires { ⌜ (known ≡ true → had .id ≡ b .id) ⌝ }
-    ensures { λ r. ⌜ (r .seat ≡ joinedAs (b .id) epoch subscription timeout (b .tick)) × (r .retargets ≡ (known && any (targeted (p .0)) (viewTables tables))) ⌝ }
+// Record 5 of a member that joins at a place.
+fn metadata_of(b: Request, p: Place) -> MemberMetadata
+    ensures { λ r. ⌜ r ≡ metadataIn b p ⌝ }
 {
-    if known {
-        let sets = tables.gather(p);
-        let assigned = sets.assigned;
-        let revoking = sets.revoking;
-        let target = sets.target;
-        let member = Member::gathered(had, assigned, revoking);
-        let again = member.rejoin(epoch, subscription, timeout, b.tick);
-        return Joiner {
-            seat: again.seat(),
-            retargets: !target.is_empty(),
-        };
-    }
     let id = b.id;
-    Joiner {
-        seat: Seat::joined(id, epoch, subscription, timeout, b.tick),
-        retargets: false,
+    MemberMetadata {
+        place: p,
+        id: id,
+        timeout: requests::timeout_or(b.timeout, 0),
+        subscription: given_subscription(b),
     }
 }
 
-// The join at a place, where the seat was `had`: only the last row, 1003, is left to try. If the records do not fit the buffer, nothing changes.
-fn join_at(g: Group, had: Seat, p: Place, known: bool, b: Request, records: &mut [u8]) -> Outcome
-    requires { ⌜ (g .epoch < lastEpoch) × (known ≡ true → had .id ≡ b .id) ⌝ }
-    ensures { λ r. ⌜ RefusalKeeps g r × ((owned l : List ℕ) → took r (now (records .exit)) l ≡ carried (view g) (joinAt (view g) (p .0) known (requestOf b owned)) (now (records .entry)) l) ⌝ }
+// The seat of a member that joins at a tick: a known one joins again, another is new. Which slots a known one has is not gathered, since it keeps none.
+fn seat_of(members: &[u32; CELLS], known: bool, m: MemberMetadata, epoch: u32, tick: u32) -> Seat
+    ensures { λ r. ⌜ ((known ≡ true → seatAt (now (members .entry)) (m .place .0) .id ≡ m .id) → r ≡ joinedAs (m .id) epoch (m .subscription) (m .timeout) tick) ⌝ }
 {
-    let tables = g.tables;
-    let epoch = g.epoch + 1;
-    let timeout = requests::timeout_or(b.timeout, 0);
-    let subscription = given_subscription(b);
-    let joiner = joiner_at(tables, had, p, known, b, epoch, subscription, timeout);
-    let retargets = joiner.retargets;
-    let id = b.id;
-    let metadata = MemberMetadata {
-        place: p,
-        id: id,
-        timeout: timeout,
-        subscription: subscription,
-    };
+    if known {
+        let had = members::seat_at(members, m.place);
+        let none = SlotSet::empty();
+        let member = Member::gathered(had, none, none);
+        let again = member.rejoin(epoch, m.subscription, m.timeout, tick);
+        return again.seat();
+    }
+    let id = m.id;
+    Seat::joined(id, epoch, m.subscription, m.timeout, tick)
+}
+
+// The place is vacated in the tables; `aimed`: it is the target of some slot. Most joiners hold nothing and have no target, and a test of each table tells it.
+fn vacate<'a>(
+    target: &'a mut [u8; SLOTS],
+    holder: &'a mut [u8; SLOTS],
+    waiting: &'a mut [bool; SLOTS],
+    p: Place,
+    aimed: bool,
+)
+    ensures { λ r. ⌜ (aimed ≡ any (targeted (p .0)) (slotsBefore target holder waiting) → slotsAfter target holder waiting ≡ map (vacated (p .0)) (slotsBefore target holder waiting)) ⌝ }
+{
+    tables::sized(target, holder, waiting);
+    if bools::either(aimed, tables::is_holder(holder, p)) {
+        tables::vacate(target, holder, waiting, p);
+        return;
+    }
+}
+
+// The join at a place: only the last row, 1003, is left to try. If the records do not fit the buffer, nothing changes.
+fn join_at<'a>(
+    head: &'a mut [u32; 3],
+    members: &'a mut [u32; CELLS],
+    target: &'a mut [u8; SLOTS],
+    holder: &'a mut [u8; SLOTS],
+    waiting: &'a mut [bool; SLOTS],
+    p: Place,
+    known: bool,
+    b: Request,
+    records: &mut [u8],
+) -> Outcome
+    ensures { λ r. ⌜ ((owned l : List ℕ) → Ready (before head members target holder waiting) (p .0) known (b .id) → Becomes viewParts r (before head members target holder waiting) (after head members target holder waiting) (now (records .exit)) l (λ g. carried g (joinAt g (p .0) known (requestOf b owned)) (now (records .entry)) l)) ⌝ }
+{
+    group::whole(head, members, target, holder, waiting);
+    let had = head[EPOCH];
+    let epoch = epochs::raised_epoch(had);
+    let metadata = metadata_of(b, p);
+    let aimed = tables::has_target(target, p);
+    let retargets = bools::both(known, aimed);
     let size = batches::join_records_len(retargets, metadata, epoch);
     if records.len() < size {
-        return refused(g, Refusal::Room);
+        return refused(Refusal::Room);
     }
     let written = batches::put_join_records(records, retargets, metadata, epoch);
-    let after = tables.vacate(p);
-    let seat = joiner.seat;
+    let seat = seat_of(members, known, metadata, epoch, b.tick);
+    members::put(members, p, seat);
+    vacate(target, holder, waiting, p, aimed);
+    head[EPOCH] = epoch;
+    head[TICK] = b.tick;
     Outcome {
-        group: changes::with_seat(g, p, seat, after, epoch, b.tick),
         answer: Answer::Assigned(Assignment {
             epoch: epoch,
             interval: HEARTBEAT_INTERVAL,
@@ -179,25 +190,43 @@ fn join_at(g: Group, had: Seat, p: Place, known: bool, b: Request, records: &mut
 }
 
 // A heartbeat taken as a join. The answer carries no slots, so that no list is lent.
-pub fn join(g: Group, b: Request, owned: &[u16], records: &mut [u8]) -> Outcome
-    ensures { λ r. ⌜ RefusalKeeps g r × ((l : List ℕ) → took r (now (records .exit)) l ≡ stepAs joins (view g) (requestOf b (now (owned .entry))) (now (records .entry)) l) ⌝ }
+pub fn join<'a>(
+    head: &'a mut [u32; 3],
+    members: &'a mut [u32; CELLS],
+    target: &'a mut [u8; SLOTS],
+    holder: &'a mut [u8; SLOTS],
+    waiting: &'a mut [bool; SLOTS],
+    b: Request,
+    owned: &[u16],
+    records: &mut [u8],
+) -> Outcome
+    ensures { λ r. ⌜ ((l : List ℕ) → Becomes viewParts r (before head members target holder waiting) (after head members target holder waiting) (now (records .exit)) l (λ g. stepAs joins g (requestOf b (now (owned .entry))) (now (records .entry)) l)) ⌝ }
 {
-    if ticks::goes_back(g.tick, b.tick) {
-        return refused(g, Refusal::Clock);
+    group::whole(head, members, target, holder, waiting);
+    if ticks::goes_back(head[TICK], b.tick) {
+        return refused(Refusal::Clock);
     }
     if is_bad_join(b, owned) {
-        return refused(g, Refusal::InvalidRequest);
+        return refused(Refusal::InvalidRequest);
     }
     let id = b.id;
-    let places = g.seats;
-    let choice = choose_place(places, id);
+    let choice = choose_place(members, id);
     let found = choice.place;
     let Found::At(p) = found else {
-        return refused(g, Refusal::GroupMaxSizeReached);
+        return refused(Refusal::GroupMaxSizeReached);
     };
-    if epochs::at_end(g.epoch) {
-        return refused(g, Refusal::EpochEnd);
+    if epochs::at_end(head[EPOCH]) {
+        return refused(Refusal::EpochEnd);
     }
-    let had = seats::seat_at(places, p);
-    join_at(g, had, p, choice.known, b, records)
+    join_at(
+        head,
+        members,
+        target,
+        holder,
+        waiting,
+        p,
+        choice.known,
+        b,
+        records,
+    )
 }

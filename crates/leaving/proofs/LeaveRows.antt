@@ -2,21 +2,25 @@
 use Prim.Native.Nat.{ℕ}
 use mathlib.Core.Path.{_≡_, _∙_}
 use mathlib.Core.Bool.{Bool, true, false, not}
-use mathlib.Core.List.{List}
+use mathlib.Core.List.{List, map}
+use mathlib.Core.Option.{Option, none}
 use lib.Dec.{leb}
+use lib.ListN.{length, getD, set}
 use Rattle.rules.specs.Basics.{any}
 use Rattle.rules.specs.Constants.{lastEpoch}
-use Rattle.rules.specs.Group.{Group, known, placeOf, targeted, raised}
+use Rattle.rules.specs.Group.{Group, Topic, known, placeOf, targeted, raised}
 use Rattle.rules.specs.Event.{Request}
 use Rattle.rules.specs.Refusals.{leaves, firstOf, goesBack, zeroId, heartbeatTable, atEnd}
-use Rattle.rules.specs.Effects.{changed, remove, leaveRecords, leaveAt, leaveEffect, heartbeatEffect}
+use Rattle.rules.specs.Effects.{changed, vacated, remove, leaveRecords, leaveAt, leaveEffect, heartbeatEffect}
 use Rattle.rules.specs.Step.{carryOut}
 use Rattle.rules.specs.declared.Refusal.the-variants.{Clock, InvalidRequest, UnknownMemberId}
-use Rattle.tables.specs.View.{viewTables}
-use Rattle.group.specs.declared.Group as S
-use Rattle.group.specs.View.{view}
+use Rattle.tables.specs.View.{viewLists}
+use Rattle.group.specs.Columns.{viewMembers}
+use Rattle.group.specs.Parts.{Parts, viewParts}
+use Rattle.group.specs.View.{viewWith}
 use Rattle.events.specs.Outcomes.{carried, stepAs}
 use Rattle.events.proofs.Carrying.{denied}
+use Rattle.events.proofs.Lent.{parts-changed}
 
 -- ---- the rows
 
@@ -41,12 +45,15 @@ module _ (g : Group) (q : Request) (b l : List ℕ) where
 
 -- ---- the effect
 
-module _ (s : S.Group) (p tick : ℕ) {e : ℕ} (he : e ≡ raised (s .epoch)) where
-  pub leave-records : {retargets raises : Bool} → retargets ≡ any (targeted p) (viewTables (s .tables)) → raises ≡ not (leb lastEpoch (s .epoch))
-      → leaveRecords p retargets raises e ≡ leaveAt (view s) p tick .records
-  unfolding leaveAt view atEnd
+module _ (ts : List (Option Topic)) (g : Parts) (p tick : ℕ) {e : ℕ} (he : e ≡ raised (getD (g .head) 0 0)) where
+  pub leave-records : {retargets raises : Bool} → retargets ≡ any (targeted p) (viewLists (g .target) (g .holder) (g .waiting)) → raises ≡ not (leb lastEpoch (getD (g .head) 0 0))
+      → leaveRecords p retargets raises e ≡ leaveAt (viewParts ts g) p tick .records
+  unfolding leaveAt viewParts viewWith atEnd
   leave-records ht hr = λ i. leaveRecords p (ht i) (hr i) (he i)
 
-  pub leave-group : (rest out : S.Group) → view rest ≡ remove (view s) p → view out ≡ changed (view rest) e tick (view rest .members) (view rest .slots) → view out ≡ leaveAt (view s) p tick .group
-  unfolding leaveAt view remove changed
-  leave-group rest out v w = w ∙ (λ i. changed (v i) (he i) tick (v i .members) (v i .slots))
+  pub leave-group : (g′ : Parts) → length (g .head) ≡ 3 → g′ .head ≡ set (set (g .head) 0 e) 2 tick → viewMembers (g′ .members) ≡ set (viewMembers (g .members)) p none
+      → viewLists (g′ .target) (g′ .holder) (g′ .waiting) ≡ map (vacated p) (viewLists (g .target) (g .holder) (g .waiting)) → viewParts ts g′ ≡ leaveAt (viewParts ts g) p tick .group
+  unfolding leaveAt remove viewParts viewWith changed
+  leave-group g′ n h m s =
+      parts-changed ts g g′ e tick n h m s
+      ∙ (λ i. changed (viewParts ts g) (he i) tick (set (viewMembers (g .members)) p none) (map (vacated p) (viewLists (g .target) (g .holder) (g .waiting))))

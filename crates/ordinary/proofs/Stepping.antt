@@ -20,17 +20,15 @@ use Rattle.slots.specs.Set.{slotsOf, wordCount}
 use Rattle.slots.proofs.Words.{has-none}
 use Rattle.records.specs.Views.{viewCurrent}
 use Rattle.records.proofs.Differences.{slots-none}
-use Rattle.tables.specs.View.{viewTables}
+use Rattle.tables.specs.Changes.{followedBy}
 use Rattle.tables.specs.Gathers.{Gathers}
 use Rattle.tables.specs.Advances.{ownedOf, Advances}
-use Rattle.tables.specs.declared.Tables.{Tables}
 use Rattle.tables.specs.declared.advancing.Advance.{Advance}
 use Rattle.tables.specs.declared.gathering.PlaceSets.{PlaceSets}
 use Rattle.tables.proofs.Listing.{gathered-assigned, gathered-revoking}
-use Rattle.group.specs.declared.Group as S
 use Rattle.group.specs.declared.Seat.{Seat}
 use Rattle.group.specs.declared.member.Member.{Member}
-use Rattle.group.specs.View.{view, seated}
+use Rattle.group.specs.View.{seated}
 use Rattle.group.specs.Transitions.{viewMember, noSlots, memberOf, memberStored, memberHeard}
 use Rattle.events.specs.declared.Request.{Request}
 use Rattle.events.specs.Outcomes.{requestOf}
@@ -42,9 +40,9 @@ no-slots = slots-none (noSlots .words) (has-none (noSlots .words) (λ k h. getD-
 
 -- ---- the member after the steps, by the decisions that the step made
 
-module _ (g : S.Group) (b : Request) (l : List ℕ) (p : Place) (seat : Seat) (sets : PlaceSets) (step : Advance) (hid : seat .id ≡ b .id)
-    (len : length (viewTables (g .tables)) ≡ slotCount)
-    (hs : Gathers (p .0) (viewTables (g .tables)) sets) (ha : Advances (p .0) (viewTables (g .tables)) (ownedOf (b .«has_list») l) step) where
+module _ (g : G.Group) (b : Request) (l : List ℕ) (p : Place) (seat : Seat) (sets : PlaceSets) (step : Advance) (hid : seat .id ≡ b .id)
+    (len : length (g .slots) ≡ slotCount)
+    (hs : Gathers (p .0) (g .slots) sets) (ha : Advances (p .0) (g .slots) (ownedOf (b .«has_list») l) step) where
   abbrev sender : G.Sender
   sender = viewSender (record { place = p; seat = seat })
 
@@ -53,21 +51,21 @@ module _ (g : S.Group) (b : Request) (l : List ℕ) (p : Place) (seat : Seat) (s
 
   -- the slots before, and the list
   abbrev vs : List SlotState
-  vs = viewTables (g .tables)
+  vs = g .slots
 
   abbrev given : Option (List ℕ)
   given = ownedOf (b .«has_list») l
 
-  revokes-so : revokes (view g) sender request ≡ step .revokes
-  unfolding revokes requestOf view
+  revokes-so : revokes g sender request ≡ step .revokes
+  unfolding revokes requestOf
   revokes-so = sym (ha .revokes-is)
 
-  epoch-so : epochAfter (view g) sender request ≡ (if step .waits || step .revokes then seat .epoch else max (seat .epoch) (g .«target_epoch»))
-  unfolding epochAfter requestOf view
-  epoch-so = λ i. if sym (ha .waits-is) i || revokes-so i then seat .epoch else max (seat .epoch) (g .«target_epoch»)
+  epoch-so : epochAfter g sender request ≡ (if step .waits || step .revokes then seat .epoch else max (seat .epoch) (g .targetEpoch))
+  unfolding epochAfter requestOf
+  epoch-so = λ i. if sym (ha .waits-is) i || revokes-so i then seat .epoch else max (seat .epoch) (g .targetEpoch)
 
-  slots-so : advanced (p .0) vs given ≡ slotsAfter (view g) sender request
-  unfolding slotsAfter requestOf view
+  slots-so : advanced (p .0) vs given ≡ slotsAfter g sender request
+  unfolding slotsAfter requestOf
   slots-so = refl
 
   -- slots are revoked only where the member does not wait
@@ -75,18 +73,18 @@ module _ (g : S.Group) (b : Request) (l : List ℕ) (p : Place) (seat : Seat) (s
   one-only h = ha .revokes-is ∙ ap (λ (w : Bool). not w && strays (p .0) vs given) (sym (ha .waits-is) ∙ h)
 
   abbrev next : Member
-  next = memberNext seat sets step b (g .«target_epoch»)
+  next = memberNext seat sets step b (g .targetEpoch)
 
   -- the same by what the step decided
   abbrev decided : Bool → Bool → Member
   decided w r =
-      steppedBy (record { assigned = step .assigned; revoking = step .revoking; waits = w; frees = step .frees; revokes = r; changed = step .changed }) (g .«target_epoch») (b .tick)
+      steppedBy (record { assigned = step .assigned; revoking = step .revoking; waits = w; frees = step .frees; revokes = r; changed = step .changed }) (g .targetEpoch) (b .tick)
       (memberHeard (memberStored (memberOf seat (sets .assigned) (sets .revoking)) (storedSubscription seat b) (storedTimeout seat b)) (b .tick))
 
   who-so : viewMember next
       ≡ record {
         id = seat .id;
-        epoch = if step .waits || step .revokes then seat .epoch else max (seat .epoch) (g .«target_epoch»);
+        epoch = if step .waits || step .revokes then seat .epoch else max (seat .epoch) (g .targetEpoch);
         subscription = storedSubscription seat b;
         timeout = storedTimeout seat b;
         heard = b .tick;
@@ -99,7 +97,7 @@ module _ (g : S.Group) (b : Request) (l : List ℕ) (p : Place) (seat : Seat) (s
           → viewMember (decided w r)
           ≡ record {
             id = seat .id;
-            epoch = if w || r then seat .epoch else max (seat .epoch) (g .«target_epoch»);
+            epoch = if w || r then seat .epoch else max (seat .epoch) (g .targetEpoch);
             subscription = storedSubscription seat b;
             timeout = storedTimeout seat b;
             heard = b .tick;
@@ -110,7 +108,7 @@ module _ (g : S.Group) (b : Request) (l : List ℕ) (p : Place) (seat : Seat) (s
       go false true h = refl
       go false false h = refl
 
-  member-so : viewMember next ≡ memberAfter (view g) sender request
+  member-so : viewMember next ≡ memberAfter g sender request
   unfolding memberAfter newSubscription newTimeout requestOf
   member-so =
       who-so
@@ -124,7 +122,7 @@ module _ (g : S.Group) (b : Request) (l : List ℕ) (p : Place) (seat : Seat) (s
       })
 
   -- A and P of the member, as the rules list them
-  assigned-so : slotsOf (next .assigned .words) ≡ setA (p .0) (slotsAfter (view g) sender request)
+  assigned-so : slotsOf (next .assigned .words) ≡ setA (p .0) (slotsAfter g sender request)
   unfolding memberNext steppedBy
   assigned-so = go (step .waits) (step .revokes) refl ∙ ap (setA (p .0)) slots-so
     where
@@ -133,7 +131,7 @@ module _ (g : S.Group) (b : Request) (l : List ℕ) (p : Place) (seat : Seat) (s
       go false true h = ha .assigned-list
       go false false h = ha .assigned-list
 
-  revoking-so : slotsOf (next .revoking .words) ≡ setP (p .0) (slotsAfter (view g) sender request)
+  revoking-so : slotsOf (next .revoking .words) ≡ setP (p .0) (slotsAfter g sender request)
   unfolding memberNext steppedBy
   revoking-so = go (step .waits) (step .revokes) refl refl ∙ ap (setP (p .0)) slots-so
     where
@@ -147,23 +145,23 @@ module _ (g : S.Group) (b : Request) (l : List ℕ) (p : Place) (seat : Seat) (s
 
   -- ---- the plan
 
-  module _ (n : Member) (hn : n ≡ next) (ts : Tables) (ht : viewTables ts ≡ advanced (p .0) vs given) (e : ℕ) (u v : Bool)
+  module _ (n : Member) (hn : n ≡ next) (ht : followedBy (step .changed) (step .frees) (step .revokes) (p .0) vs ≡ advanced (p .0) vs given) (e : ℕ) (u v : Bool)
       (he : e ≡ (if not (eqb (n .subscription) (seat .subscription)) then raised (g .epoch) else g .epoch))
       (hu : u ≡ (not (eqb (n .subscription) (seat .subscription)) || not (eqb (n .timeout) (seat .timeout))))
       (hv : v ≡ (not (eqb (n .epoch) (seat .epoch)) || step .changed)) where
-    who : viewMember n ≡ memberAfter (view g) sender request
+    who : viewMember n ≡ memberAfter g sender request
     who = ap viewMember hn ∙ member-so
 
     raises-so : not (eqb (n .subscription) (seat .subscription)) ≡ resubscribes (seated seat) request
     unfolding resubscribes memberAfter requestOf
     raises-so = λ i. not (eqb (who i .subscription) (seat .subscription))
 
-    pub plan-is : PlanIs (view g) (record { place = p; seat = seat }) request (record { member = n; tables = ts; epoch = e; updates = u; raises = not (eqb (n .subscription) (seat .subscription)); moves = v })
-    unfolding view requestOf memberAfter updates moves currentOf currentBefore currentAfter slotsAfter viewCurrent
+    pub plan-is : PlanIs g (record { place = p; seat = seat }) request (record { member = n; changed = step .changed; frees = step .frees; revokes = step .revokes; epoch = e; updates = u; raises = not (eqb (n .subscription) (seat .subscription)); moves = v })
+    unfolding requestOf memberAfter updates moves currentOf currentBefore currentAfter slotsAfter viewCurrent
     plan-is = record {
       member-is = who;
       current-is = λ i. record { place = p .0; epoch = who i .epoch; assigned = (ap (λ (m : Member). slotsOf (m .assigned .words)) hn ∙ assigned-so) i; revoking = (ap (λ (m : Member). slotsOf (m .revoking .words)) hn ∙ revoking-so) i };
-      tables-are = ht;
+      slots-are = ht;
       raises-is = raises-so;
       epoch-is = he;
       updates-is = hu ∙ (λ i. raises-so i || not (eqb (who i .timeout) (seat .timeout)));

@@ -1,28 +1,32 @@
-// The ordinary heartbeat: of a known member, at its own epoch.
+// The ordinary heartbeat: of a known member, at its own epoch. The group's parts are lent, and change in place.
 ghost use mathlib.Core.Path.{_≡_};
+ghost use mathlib.Core.Bool.{false};
 ghost use mathlib.Core.List.{[]};
-ghost use Prim.Native.Nat.{_<_};
-ghost use Rattle.rules.specs.Basics.{any, default};
-ghost use Rattle.rules.specs.Constants.{maxMembers};
-ghost use Rattle.rules.specs.Refusals.{ordinary, notHeldBy};
+ghost use Rattle.rules.specs.Basics.{default};
+ghost use Rattle.rules.specs.Refusals.{ordinary, zeroId};
+ghost use Rattle.tables.specs.Places.{TellsUnheld};
 ghost use Rattle.tables.specs.Advances.{ownedOf};
-ghost use Rattle.group.specs.View.{view};
-ghost use Rattle.events.specs.Outcomes.{took, RefusalKeeps, requestOf, carried, stepAs};
-ghost use Rattle.ordinary.specs.Plans.{viewSender, PlanIs, planned, ordinaryStep};
+ghost use Rattle.group.specs.Parts.{viewParts, before, after};
+ghost use Rattle.events.specs.Outcomes.{Becomes, requestOf, carried, stepAs};
+ghost use Rattle.ordinary.specs.Plans.{viewSender, senderAt, Sends, planned, ordinaryStep};
 
+mod cells; // cells.rt: single numbers of a member
 mod plan; // plan.rt: the sender, and what becomes of it
+mod quick; // quick.rt: the heartbeat that changes nothing
+mod rows; // rows.rt: the first row 42, its list last
 
 use crate::plan::Plan;
 use crate::plan::Sender;
 use events::Outcome;
 use events::Request;
 use events::refused;
-use events::rows;
+use group::CELLS;
+use group::EPOCH;
 use group::Found;
-use group::Group;
-use group::changes;
+use group::TARGET_EPOCH;
+use group::TICK;
 use group::epochs;
-use group::seats;
+use group::members;
 use group::ticks;
 use records::batches;
 use records::kinds::CurrentAssignment;
@@ -32,49 +36,34 @@ use rules::Assignment;
 use rules::HEARTBEAT_INTERVAL;
 use rules::Place;
 use rules::Refusal;
-use tables::bools::either;
+use rules::SLOTS;
 
 // The second row 42: whether a list is given that has a slot which the place does not hold.
-fn lists_unheld(g: Group, p: Place, given: bool, owned: &[u16]) -> bool
-    ensures { λ r. ⌜ r ≡ any (notHeldBy (view g) (p .0)) (default [] (ownedOf given (now (owned .entry)))) ⌝ }
+fn lists_unheld<'a>(holder: &'a [u8; SLOTS], p: Place, given: bool, owned: &'a [u16]) -> bool
+    ensures { λ r. ⌜ TellsUnheld (p .0) (now (holder .entry)) (default [] (ownedOf given (now (owned .entry)))) r ⌝ }
 {
     if given {
-        let tables = g.tables;
-        return tables.lists_unheld(p, owned);
+        return tables::lists_unheld(holder, p, owned);
     }
     false
 }
 
-// The plan for a sender: what its heartbeat comes to, decided before anything is written. The tables are gathered once, by one pass; a second pass writes
-// them, only where A or P changed.
-fn make_plan(g: Group, s: Sender, b: Request, owned: &[u16]) -> Plan
-    requires { ⌜ (s .seat .id ≡ b .id) × (s .place .0 < maxMembers) ⌝ }
-    ensures { λ r. ⌜ PlanIs (view g) s (requestOf b (now (owned .entry))) r ⌝ }
-{
-    let tables = g.tables;
-    let seat = s.seat;
-    let sets = tables.gather(s.place);
-    let step = sets.advance(b.has_list, owned);
-    let next = plan::next_member(seat, sets, step, b, g.target_epoch);
-    let raises = next.subscription != seat.subscription;
-    let epoch = epochs::epoch_after(g.epoch, raises);
-    let updates = either(raises, next.timeout != seat.timeout);
-    let moves = either(next.epoch != seat.epoch, step.changed);
-    let after = tables.follow(s.place, step);
-    Plan {
-        member: next,
-        tables: after,
-        epoch: epoch,
-        updates: updates,
-        raises: raises,
-        moves: moves,
-    }
-}
-
 // Carries a plan for place p out if there is room for its records and its slots; otherwise nothing changes.
-fn carry(g: Group, p: Place, tick: u32, k: Plan, records: &mut [u8], list: &mut [u16]) -> Outcome
-    ensures { λ r. ⌜ RefusalKeeps g r × (took r (now (records .exit)) (now (list .exit)) ≡ carried (view g) (planned (view g) p tick k) (now (records .entry)) (now (list .entry))) ⌝ }
+fn carry<'a>(
+    head: &'a mut [u32; 3],
+    members: &'a mut [u32; CELLS],
+    target: &'a mut [u8; SLOTS],
+    holder: &'a mut [u8; SLOTS],
+    waiting: &'a mut [bool; SLOTS],
+    p: Place,
+    tick: u32,
+    k: Plan,
+    records: &mut [u8],
+    list: &mut [u16],
+) -> Outcome
+    ensures { λ r. ⌜ (zeroId (k .member .id) ≡ false → Becomes viewParts r (before head members target holder waiting) (after head members target holder waiting) (now (records .exit)) (now (list .exit)) (λ g. carried g (planned g p tick k) (now (records .entry)) (now (list .entry)))) ⌝ }
 {
+    group::whole(head, members, target, holder, waiting);
     let m = k.member;
     let a = m.assigned;
     let q = m.revoking;
@@ -100,11 +89,11 @@ fn carry(g: Group, p: Place, tick: u32, k: Plan, records: &mut [u8], list: &mut 
         current,
     );
     if records.len() < size {
-        return refused(g, Refusal::Room);
+        return refused(Refusal::Room);
     }
     let count = a.count();
     if list.len() < count as usize {
-        return refused(g, Refusal::Room);
+        return refused(Refusal::Room);
     }
     let written = batches::put_ordinary_records(
         records,
@@ -116,11 +105,11 @@ fn carry(g: Group, p: Place, tick: u32, k: Plan, records: &mut [u8], list: &mut 
         current,
     );
     slots::list_slots(list, a);
-    let seat = m.seat();
-    let tables = k.tables;
-    let next = changes::with_seat(g, p, seat, tables, k.epoch, tick);
+    members::put(members, p, m.seat());
+    tables::follow(target, holder, waiting, p, k.changed, k.frees, k.revokes);
+    head[EPOCH] = k.epoch;
+    head[TICK] = tick;
     Outcome {
-        group: next,
         answer: Answer::Assigned(Assignment {
             epoch: m.epoch,
             interval: HEARTBEAT_INTERVAL,
@@ -130,58 +119,118 @@ fn carry(g: Group, p: Place, tick: u32, k: Plan, records: &mut [u8], list: &mut 
     }
 }
 
-// An ordinary heartbeat of a sender, past the rows that only read.
-fn ordinary_at(
-    g: Group,
-    s: Sender,
+// An ordinary heartbeat of the member at place p, past the rows that need no table.
+fn ordinary_at<'a>(
+    head: &'a mut [u32; 3],
+    members: &'a mut [u32; CELLS],
+    target: &'a mut [u8; SLOTS],
+    holder: &'a mut [u8; SLOTS],
+    waiting: &'a mut [bool; SLOTS],
+    p: Place,
     b: Request,
     owned: &[u16],
     records: &mut [u8],
     list: &mut [u16],
 ) -> Outcome
-    requires { ⌜ (s .seat .id ≡ b .id) × (s .place .0 < maxMembers) ⌝ }
-    ensures { λ r. ⌜ RefusalKeeps g r × (took r (now (records .exit)) (now (list .exit)) ≡ ordinaryStep (view g) (viewSender s) (requestOf b (now (owned .entry))) (now (records .entry)) (now (list .entry))) ⌝ }
+    ensures { λ r. ⌜ (Sends (senderAt (now (members .entry)) p) b → Becomes viewParts r (before head members target holder waiting) (after head members target holder waiting) (now (records .exit)) (now (list .exit)) (λ g. ordinaryStep g (viewSender (senderAt (now (members .entry)) p)) (requestOf b (now (owned .entry))) (now (records .entry)) (now (list .entry)))) ⌝ }
 {
-    let k = make_plan(g, s, b, owned);
-    if epochs::past_end(k.raises, g.epoch) {
-        return refused(g, Refusal::EpochEnd);
+    group::whole(head, members, target, holder, waiting);
+    if lists_unheld(holder, p, b.has_list, owned) {
+        return refused(Refusal::InvalidRequest);
     }
-    carry(g, s.place, b.tick, k, records, list)
+    let group_epoch = head[EPOCH];
+    let target_epoch = head[TARGET_EPOCH];
+    let seat = members::seat_at(members, p);
+    let s = Sender {
+        place: p,
+        seat: seat,
+    };
+    let k = plan::make_plan(
+        target,
+        holder,
+        waiting,
+        group_epoch,
+        target_epoch,
+        s,
+        b,
+        owned,
+    );
+    if epochs::past_end(k.raises, group_epoch) {
+        return refused(Refusal::EpochEnd);
+    }
+    carry(
+        head,
+        members,
+        target,
+        holder,
+        waiting,
+        p,
+        b.tick,
+        k,
+        records,
+        list,
+    )
 }
 
 // A heartbeat taken as an ordinary one at the epoch e. The list of owned slots counts only where the request has one.
-pub fn ordinary(
-    g: Group,
+pub fn ordinary<'a>(
+    head: &'a mut [u32; 3],
+    members: &'a mut [u32; CELLS],
+    target: &'a mut [u8; SLOTS],
+    holder: &'a mut [u8; SLOTS],
+    waiting: &'a mut [bool; SLOTS],
     b: Request,
     e: u32,
     owned: &[u16],
     records: &mut [u8],
     list: &mut [u16],
 ) -> Outcome
-    ensures { λ r. ⌜ RefusalKeeps g r × (took r (now (records .exit)) (now (list .exit)) ≡ stepAs (ordinary e) (view g) (requestOf b (now (owned .entry))) (now (records .entry)) (now (list .entry))) ⌝ }
+    ensures { λ r. ⌜ Becomes viewParts r (before head members target holder waiting) (after head members target holder waiting) (now (records .exit)) (now (list .exit)) (λ g. stepAs (ordinary e) g (requestOf b (now (owned .entry))) (now (records .entry)) (now (list .entry))) ⌝ }
 {
-    if ticks::goes_back(g.tick, b.tick) {
-        return refused(g, Refusal::Clock);
+    group::whole(head, members, target, holder, waiting);
+    let last = head[TICK];
+    if ticks::goes_back(last, b.tick) {
+        return refused(Refusal::Clock);
     }
-    if rows::is_malformed(b, owned) {
-        return refused(g, Refusal::InvalidRequest);
+    if rows::is_malformed(b) {
+        return refused(Refusal::InvalidRequest);
     }
     let id = b.id;
-    let places = g.seats;
-    let found = seats::find_member(places, id);
+    let found = members::find(members, id);
     let Found::At(p) = found else {
-        return refused(g, Refusal::UnknownMemberId);
+        return rows::refused_below(b.has_list, owned, Refusal::UnknownMemberId);
     };
-    let seat = seats::seat_at(places, p);
-    if e != seat.epoch {
-        return refused(g, Refusal::FencedMemberEpoch);
+    if e != cells::epoch_at(members, p) {
+        return rows::refused_below(b.has_list, owned, Refusal::FencedMemberEpoch);
     }
-    if lists_unheld(g, p, b.has_list, owned) {
-        return refused(g, Refusal::InvalidRequest);
+    let target_epoch = head[TARGET_EPOCH];
+    if quick::is_calm(
+        members,
+        target,
+        holder,
+        waiting,
+        p,
+        e,
+        target_epoch,
+        b,
+        owned,
+        list.len(),
+    ) {
+        return quick::hear(head, members, p, b.tick, e, owned, list);
     }
-    let s = Sender {
-        place: p,
-        seat: seat,
-    };
-    ordinary_at(g, s, b, owned, records, list)
+    if rows::lists_badly(b.has_list, owned) {
+        return refused(Refusal::InvalidRequest);
+    }
+    ordinary_at(
+        head,
+        members,
+        target,
+        holder,
+        waiting,
+        p,
+        b,
+        owned,
+        records,
+        list,
+    )
 }

@@ -1,16 +1,19 @@
-// The sender of an ordinary heartbeat and what becomes of it: the parts of a plan, which is made before anything is written.
+// What an ordinary heartbeat comes to, decided before anything is written. The tables are gathered once, by one pass.
 ghost use mathlib.Core.Path.{_≡_};
 ghost use Rattle.rules.specs.Basics.{default};
+ghost use Rattle.tables.specs.View.{slotsBefore};
 ghost use Rattle.events.specs.Outcomes.{givenSubscription};
-ghost use Rattle.ordinary.specs.Plans.{steppedBy, memberNext};
+ghost use Rattle.ordinary.specs.Plans.{steppedBy, memberNext, Plans};
 use events::Request;
 use group::Seat;
+use group::epochs;
 use group::member::Member;
 use group::requests;
 use rules::Place;
+use rules::SLOTS;
 use tables::Advance;
 use tables::PlaceSets;
-use tables::Tables;
+use tables::bools::either;
 
 // Who sends a heartbeat, found once: its place and its seat.
 pub struct Sender {
@@ -18,11 +21,13 @@ pub struct Sender {
     pub seat: Seat,
 }
 
-// The member and the tables after the heartbeat, the group epoch after it, and which records are stored: 5 if the subscription or the timeout is
-// updated, 3 if the group epoch rises, 8 if E, A or P moves.
+// The member after the heartbeat; what steps 2 and 3 do to the tables, of which nothing changes unless A or P `changed`; the group epoch after it; and
+// which records are stored: 5 if the subscription or the timeout is updated, 3 if the group epoch rises, 8 if E, A or P moves.
 pub struct Plan {
     pub member: Member,
-    pub tables: Tables,
+    pub changed: bool,
+    pub frees: bool,
+    pub revokes: bool,
     pub epoch: u32,
     pub updates: bool,
     pub raises: bool,
@@ -30,7 +35,7 @@ pub struct Plan {
 }
 
 // The subscription that is given, or else the one there was.
-fn subscription_or(given: bool, subscription: u16, had: u16) -> u16
+pub fn subscription_or(given: bool, subscription: u16, had: u16) -> u16
     ensures { λ r. ⌜ r ≡ default had (givenSubscription given subscription) ⌝ }
 {
     if given {
@@ -56,13 +61,7 @@ fn stepped(m: Member, step: Advance, target_epoch: u32, tick: u32) -> Member
 }
 
 // The member at a seat after steps 1 to 3, by the sets of its place and what steps 2 and 3 came to.
-pub fn next_member(
-    seat: Seat,
-    sets: PlaceSets,
-    step: Advance,
-    b: Request,
-    target_epoch: u32,
-) -> Member
+fn next_member(seat: Seat, sets: PlaceSets, step: Advance, b: Request, target_epoch: u32) -> Member
     ensures { λ r. ⌜ r ≡ memberNext seat sets step b «target_epoch» ⌝ }
 {
     let assigned = sets.assigned;
@@ -72,4 +71,38 @@ pub fn next_member(
     let had = Member::gathered(seat, assigned, revoking);
     let heard = had.store(subscription, timeout).hear(b.tick);
     stepped(heard, step, target_epoch, b.tick)
+}
+
+// The plan for a sender, from the tables of the group, its epoch and its target epoch.
+pub fn make_plan<'a>(
+    target: &'a [u8; SLOTS],
+    holder: &'a [u8; SLOTS],
+    waiting: &'a [bool; SLOTS],
+    group_epoch: u32,
+    target_epoch: u32,
+    s: Sender,
+    b: Request,
+    owned: &'a [u16],
+) -> Plan
+    ensures { λ r. ⌜ Plans (slotsBefore target holder waiting) «group_epoch» «target_epoch» s b (now (owned .entry)) r ⌝ }
+{
+    tables::sized(target, holder, waiting);
+    let seat = s.seat;
+    let sets = tables::gather(target, holder, waiting, s.place);
+    let step = sets.advance(b.has_list, owned);
+    let next = next_member(seat, sets, step, b, target_epoch);
+    let raises = next.subscription != seat.subscription;
+    let epoch = epochs::epoch_after(group_epoch, raises);
+    let updates = either(raises, next.timeout != seat.timeout);
+    let moves = either(next.epoch != seat.epoch, step.changed);
+    Plan {
+        member: next,
+        changed: step.changed,
+        frees: step.frees,
+        revokes: step.revokes,
+        epoch: epoch,
+        updates: updates,
+        raises: raises,
+        moves: moves,
+    }
 }

@@ -36,11 +36,3 @@ gather-skip {f} {g} {i} j e h z = record { done = λ s q. go s q (decLt s i); re
     go : (s : ℕ) → s < j → Dec (s < i) → g s ≡ f s
     go s q (yes l) = e .done s l
     go s q (no r) = e .rest s (omega arith) ∙ sym (z s (omega arith) q)
-
--- nothing is left to pick
-pub gather-all : {f g : ℕ → Bool} {i : ℕ} → Gather f g i → ((s : ℕ) → i ≤ s → f s ≡ false) → (s : ℕ) → g s ≡ f s
-gather-all {f} {g} {i} e z s = go (decLt s i)
-  where
-    go : Dec (s < i) → g s ≡ f s
-    go (yes l) = e .done s l
-    go (no r) = e .rest s (omega arith) ∙ sym (z s (omega arith))

@@ -88,7 +88,7 @@ below-first f (suc n) b s h = go (f b) (select f (suc b) n) (below-first f n (su
     go true l e = ap₂ _||_ (ne-eqb s b (λ (q : s ≡ b). omega arith)) e
     go false l e = e
 
-select-has : (f : ℕ → Bool) (n b s : ℕ) → b ≤ s → s < b + n → any (eqb s) (select f b n) ≡ f s
+pub select-has : (f : ℕ → Bool) (n b s : ℕ) → b ≤ s → s < b + n → any (eqb s) (select f b n) ≡ f s
 unfolding keep upTo
 select-has f zero b s h l = absurd (omega arith)
 select-has f (suc n) b s h l =

@@ -4,14 +4,12 @@ ghost use mathlib.Core.Path.{_≡_};
 ghost use mathlib.Core.Bool.{false, not, _&&_, _||_};
 ghost use Prim.Native.Nat.{ℕ, _≤_, _<_};
 ghost use lib.ListN.{length, getD};
-ghost use lib.Dec.{eqb, ltb};
 ghost use Rattle.rules.specs.Basics.{same};
-ghost use Rattle.rules.specs.Constants.{slotCount, noPlace};
+ghost use Rattle.rules.specs.Constants.{noPlace};
 ghost use Rattle.numbers.specs.Buffer.{Wrote};
 ghost use Rattle.slots.specs.Set.{has, hasWith, slotsOf, TellsEmpty, TellsSubset, NextFrom};
 use rules::NO_PLACE;
 use rules::SLOT_END;
-use rules::SLOTS;
 use rules::Slot;
 
 // A set takes so many words of 64 slots.
@@ -165,20 +163,4 @@ pub fn entry_at(table: &[u8], slot: Slot) -> u8
         return table[i];
     }
     NO_PLACE
-}
-
-// The slots at which a table has a value.
-pub fn gather(table: &[u8; SLOTS], value: u8) -> SlotSet
-    ensures { λ r. ⌜ ((s : ℕ) → has (r .words) s ≡ (ltb s slotCount && eqb (getD (now (table .entry)) s noPlace) value)) ⌝ }
-{
-    let mut r = SlotSet::empty();
-    let mut s: u16 = 0;
-    while s < SLOT_END {
-        let here = s;
-        s += 1;
-        if entry_at(table, Slot(here)) == value {
-            r = r.insert(Slot(here));
-        }
-    }
-    r
 }

@@ -1,5 +1,6 @@
 pub mod Lists
 pub mod Viewing
+pub mod Telling
 pub mod Replacing
 pub mod Nearness
 pub mod Filling

@@ -9,7 +9,7 @@ use mathlib.Core.List.{List, [], _∷_}
 use lib.ListN.{length, getD}
 use Rattle.rules.specs.Basics.{if_then_else_, any, indices, keep, upTo}
 use Rattle.rules.specs.Constants.{slotCount}
-use Rattle.rules.specs.Group.{SlotState, freeSlot, assigned, revoking, targeted, setA, setP, setM}
+use Rattle.rules.specs.Group.{SlotState, freeSlot, assigned, revoking, setA, setP}
 use Rattle.slots.specs.Set.{has, select, slotsOf, TellsEmpty, wordCount}
 use Rattle.slots.specs.declared.SlotSet.{SlotSet}
 use Rattle.slots.proofs.Selecting.{slots-are}
@@ -118,7 +118,3 @@ module _ (p : ℕ) (vs : List SlotState) (len : length vs ≡ slotCount) (r : Pl
   pub gathered-revoking : slotsOf (r .revoking .words) ≡ setP p vs
   unfolding setP
   gathered-revoking = picks-list (revoking p) vs len (r .revoking) (g .revoking-are)
-
-  pub gathered-target : slotsOf (r .target .words) ≡ setM p vs
-  unfolding setM
-  gathered-target = picks-list (targeted p) vs len (r .target) (g .target-are)

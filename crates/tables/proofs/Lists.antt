@@ -48,6 +48,25 @@ module _ {A : Type 0} (d : A) (f : A → Bool) (l : List A) where
     pub open-end : length l ≤ i → false ≡ any f l
     open-end h = sym (o .decides ∙ ap (any f) (drop-of-length-le l h))
 
+-- a loop that looks at every element of a list: some element passed before i, or one of those that are left does
+module _ {A : Type 0} (d : A) (f : A → Bool) (l : List A) where
+  abbrev pub Seen : Bool → ℕ → Type 0
+  Seen found i = any f l ≡ (found || any f (drop i l))
+
+  pub seen-more : (found : Bool) (i : ℕ) → Seen found i → i < length l → Seen (found || f (getD l i d)) (i + 1)
+  seen-more found i e h = e ∙ ap (λ (r : List A). found || any f r) (drop-cons l i d h) ∙ rw (add-one i) (go found)
+    where
+      go : (b : Bool) → (b || (f (getD l i d) || any f (drop (suc i) l))) ≡ ((b || f (getD l i d)) || any f (drop (suc i) l))
+      go true = refl
+      go false = refl
+
+  pub seen-all : (found : Bool) (i : ℕ) → Seen found i → length l ≤ i → found ≡ any f l
+  seen-all found i e h = sym (e ∙ ap (λ (r : List A). found || any f r) (drop-of-length-le l h) ∙ go found)
+    where
+      go : (b : Bool) → (b || false) ≡ b
+      go true = refl
+      go false = refl
+
 module _ {A : Type 0} where
   pub any-ext : (f g : A → Bool) → ((x : A) → f x ≡ g x) → (l : List A) → any f l ≡ any g l
   any-ext f g h [] = refl

@@ -15,7 +15,7 @@ use Rattle.tables.specs.Places.{near, claimable}
 
 -- a slot that is not near is in none of the four sets
 module _ (p t h : ℕ) (w : Bool) where
-  pub far : near p t h ≡ false → (eqb h p ≡ false) × (eqb t p ≡ false)
+  far : near p t h ≡ false → (eqb h p ≡ false) × (eqb t p ≡ false)
   unfolding near
   far e = or-false (eqb h p) (eqb t p) e
 

@@ -1,12 +1,11 @@
--- What becomes of one slot of the tables.
+-- What becomes of a slot of the tables.
 use Prim.Native.Nat.{ℕ}
 use mathlib.Core.Bool.{Bool}
+use mathlib.Core.List.{List, map}
 use Rattle.rules.specs.Basics.{if_then_else_}
 use Rattle.rules.specs.Group.{SlotState}
-use Rattle.rules.specs.Effects.{vacated, freed, revoked, claimed}
+use Rattle.rules.specs.Effects.{freed, revoked, claimed}
 use Rattle.tables.specs.declared.changing.Entry.{Entry}
-use Rattle.tables.specs.declared.changing.Change.{Change}
-use Rattle.tables.specs.declared.changing.Change.the-variants.{Vacate, Move}
 
 -- the slot that an entry of each table stands for
 abbrev pub viewEntry : Entry → SlotState
@@ -16,6 +15,6 @@ viewEntry e = record { target = e .target; holder = e .holder; waiting = e .wait
 unfoldable pub movedBy : Bool → Bool → ℕ → SlotState → SlotState
 movedBy frees revokes p s = if revokes then revoked p (if frees then freed p s else s) else claimed p (if frees then freed p s else s)
 
-abbrev pub changeBy : Change → ℕ → SlotState → SlotState
-changeBy Vacate p s = vacated p s
-changeBy (Move frees revokes) p s = movedBy frees revokes p s
+-- all slots, where A or P changed
+abbrev pub followedBy : Bool → Bool → Bool → ℕ → List SlotState → List SlotState
+followedBy changed frees revokes p vs = if changed then map (movedBy frees revokes p) vs else vs

@@ -5,8 +5,10 @@ use mathlib.Core.Bool.{Bool, true, false, not, _&&_, _||_}
 use mathlib.Core.List.{List}
 use lib.Dec.{eqb}
 use lib.ListN.{getD}
+use Rattle.rules.specs.Basics.{any}
 use Rattle.rules.specs.Constants.{slotCount, noPlace}
 use Rattle.rules.specs.Group.{SlotState, freeSlot, targeted}
+use Rattle.tables.specs.View.{viewLists, Sizes}
 
 -- the place holds the slot, or is to have it; t is the slot's target and h its holder
 unfoldable pub near : ℕ → ℕ → ℕ → Bool
@@ -28,3 +30,25 @@ claimable p s = targeted p s && eqb (s .holder) noPlace
 -- p is not the holder of slot s; a number that is no slot is held by nobody
 abbrev pub holderNot : List SlotState → ℕ → ℕ → Bool
 holderNot vs p s = not (eqb (getD vs s freeSlot .holder) p)
+
+-- a slot that the place holds, to be given back or not
+unfoldable pub heldBy : ℕ → SlotState → Bool
+heldBy p s = eqb (s .holder) p
+
+-- ---- tests by one table, whatever the other two are
+
+-- an entry that is the place
+abbrev pub isPlace : ℕ → ℕ → Bool
+isPlace p e = eqb e p
+
+-- r tells whether p is the target of some slot
+abbrev pub TellsTarget : ℕ → List ℕ → Bool → Type 0
+TellsTarget p ts r = (hs : List ℕ) (ws : List Bool) → Sizes ts hs ws → r ≡ any (targeted p) (viewLists ts hs ws)
+
+-- r tells whether p is the holder of some slot
+abbrev pub TellsHolder : ℕ → List ℕ → Bool → Type 0
+TellsHolder p hs r = (ts : List ℕ) (ws : List Bool) → Sizes ts hs ws → r ≡ any (heldBy p) (viewLists ts hs ws)
+
+-- r tells whether p is not the holder of some slot of the list
+abbrev pub TellsUnheld : ℕ → List ℕ → List ℕ → Bool → Type 0
+TellsUnheld p hs list r = (ts : List ℕ) (ws : List Bool) → Sizes ts hs ws → r ≡ any (holderNot (viewLists ts hs ws) p) list

@@ -1,16 +1,12 @@
-// What becomes of the tables. Only the slots that are near the place change, so that one loop from one such slot to the next serves every change.
+// Changes of the tables. Only the slots that are near the place change.
 ghost use mathlib.Core.Path.{_≡_};
 ghost use mathlib.Core.List.{map};
-ghost use Prim.Native.Nat.{_+_, _≤_, _<_};
 ghost use lib.Dec.{eqb};
 ghost use Rattle.rules.specs.Basics.{if_then_else_};
-ghost use Rattle.rules.specs.Constants.{slotCount, noPlace};
-ghost use Rattle.rules.specs.Effects.{vacated, freed, revoked, claimed, retargeted};
-ghost use Rattle.tables.specs.View.{viewTables, viewLists};
-ghost use Rattle.tables.specs.Places.{NoneNear};
-ghost use Rattle.tables.specs.Changes.{viewEntry, movedBy, changeBy};
-use crate::Tables;
-use crate::advancing::Advance;
+ghost use Rattle.rules.specs.Constants.{noPlace};
+ghost use Rattle.rules.specs.Effects.{vacated, freed, revoked, claimed};
+ghost use Rattle.tables.specs.View.{slotsBefore, slotsAfter};
+ghost use Rattle.tables.specs.Changes.{viewEntry, movedBy, followedBy};
 use rules::NO_PLACE;
 use rules::Place;
 use rules::SLOTS;
@@ -20,13 +16,6 @@ pub struct Entry {
     pub target: u8,
     pub holder: u8,
     pub waiting: bool,
-}
-
-// What becomes of the slots near a place: the place is vacated; or its slots move as steps 2 and 3 say, P freed first or not, then strays revoked or
-// free slots of the target claimed.
-pub enum Change {
-    Vacate,
-    Move(bool, bool),
 }
 
 fn without(entry: u8, p: Place) -> u8
@@ -115,93 +104,73 @@ fn move_one(e: Entry, frees: bool, revokes: bool, p: Place) -> Entry
     claim_one(x, p)
 }
 
-fn change_one(what: Change, e: Entry, p: Place) -> Entry
-    ensures { λ r. ⌜ viewEntry r ≡ changeBy what (p .0) (viewEntry e) ⌝ }
-{
-    match what {
-        Change::Vacate => vacate_one(e, p),
-        Change::Move(frees, revokes) => move_one(e, frees, revokes, p),
-    }
-}
-
-// Each slot changed, where none before `first` is near p.
-fn change_lists(
-    target: [u8; SLOTS],
-    holder: [u8; SLOTS],
-    waiting: [bool; SLOTS],
-    what: Change,
+// The slots of place p move as steps 2 and 3 say: P freed first or not, then strays revoked or free slots of the target claimed. Every slot is looked at,
+// without branches: that is quicker than a search for those of the place.
+fn move_slots<'a>(
+    target: &'a mut [u8; SLOTS],
+    holder: &'a mut [u8; SLOTS],
+    waiting: &'a mut [bool; SLOTS],
+    frees: bool,
+    revokes: bool,
     p: Place,
-    first: usize,
-) -> Tables
-    requires { ⌜ (first ≤ slotCount) × NoneNear (p .0) target holder 0 first ⌝ }
-    ensures { λ r. ⌜ viewTables r ≡ map (changeBy what (p .0)) (viewLists target holder waiting) ⌝ }
+)
+    ensures { λ r. ⌜ slotsAfter target holder waiting ≡ map (movedBy frees revokes (p .0)) (slotsBefore target holder waiting) ⌝ }
 {
-    let mut t = target;
-    let mut h = holder;
-    let mut w = waiting;
-    let mut i = first;
+    crate::sized(target, holder, waiting);
+    let mut i: usize = 0;
     while i < SLOTS {
         let e = Entry {
-            target: t[i],
-            holder: h[i],
-            waiting: w[i],
+            target: target[i],
+            holder: holder[i],
+            waiting: waiting[i],
         };
-        let r = change_one(what, e, p);
-        t[i] = r.target;
-        h[i] = r.holder;
-        w[i] = r.waiting;
-        i = crate::searching::next_near(&t, &h, p, i + 1);
-    }
-    Tables {
-        target: t,
-        holder: h,
-        waiting: w,
+        let r = move_one(e, frees, revokes, p);
+        target[i] = r.target;
+        holder[i] = r.holder;
+        waiting[i] = r.waiting;
+        i += 1;
     }
 }
 
-// The tables with each slot changed; the slots that are not near p are not looked at one by one. Where none is near, the tables stay as they are, and none
-// of them is copied.
-fn change_tables(tables: Tables, what: Change, p: Place) -> Tables
-    ensures { λ r. ⌜ viewTables r ≡ map (changeBy what (p .0)) (viewTables tables) ⌝ }
+// The place p holds nothing and is nobody's target; all other entries stay. By one pass, as `move_slots`.
+pub fn vacate<'a>(
+    target: &'a mut [u8; SLOTS],
+    holder: &'a mut [u8; SLOTS],
+    waiting: &'a mut [bool; SLOTS],
+    p: Place,
+)
+    ensures { λ r. ⌜ slotsAfter target holder waiting ≡ map (vacated (p .0)) (slotsBefore target holder waiting) ⌝ }
 {
-    let first = crate::searching::next_near(&tables.target, &tables.holder, p, 0);
-    if first < SLOTS {
-        let target = tables.target;
-        let holder = tables.holder;
-        let waiting = tables.waiting;
-        return change_lists(target, holder, waiting, what, p, first);
+    crate::sized(target, holder, waiting);
+    let mut i: usize = 0;
+    while i < SLOTS {
+        let e = Entry {
+            target: target[i],
+            holder: holder[i],
+            waiting: waiting[i],
+        };
+        let after = vacate_one(e, p);
+        target[i] = after.target;
+        holder[i] = after.holder;
+        waiting[i] = after.waiting;
+        i += 1;
     }
-    tables
 }
 
-impl Tables {
-    // The tables after what steps 2 and 3 of place p came to; they are written only if A or P changed.
-    pub fn follow(self, p: Place, step: Advance) -> Tables
-        ensures { λ r. ⌜ viewTables r ≡ (if step .changed then map (movedBy (step .frees) (step .revokes) (p .0)) (viewTables self) else viewTables self) ⌝ }
-    {
-        if step.changed {
-            return change_tables(self, Change::Move(step.frees, step.revokes), p);
-        }
-        self
-    }
-
-    // The place p holds nothing and is nobody's target; all other entries stay.
-    pub fn vacate(self, p: Place) -> Tables
-        ensures { λ r. ⌜ viewTables r ≡ map (vacated (p .0)) (viewTables self) ⌝ }
-    {
-        change_tables(self, Change::Vacate, p)
-    }
-
-    // Another target; who holds what stays.
-    pub fn retarget(self, target: [u8; SLOTS]) -> Tables
-        ensures { λ r. ⌜ viewTables r ≡ retargeted (viewTables self) target ⌝ }
-    {
-        let holder = self.holder;
-        let waiting = self.waiting;
-        Tables {
-            target: target,
-            holder: holder,
-            waiting: waiting,
-        }
+// What steps 2 and 3 of place p came to is carried out; the tables are written only if A or P changed.
+pub fn follow<'a>(
+    target: &'a mut [u8; SLOTS],
+    holder: &'a mut [u8; SLOTS],
+    waiting: &'a mut [bool; SLOTS],
+    p: Place,
+    changed: bool,
+    frees: bool,
+    revokes: bool,
+)
+    ensures { λ r. ⌜ slotsAfter target holder waiting ≡ followedBy changed frees revokes (p .0) (slotsBefore target holder waiting) ⌝ }
+{
+    if changed {
+        move_slots(target, holder, waiting, frees, revokes, p);
+        return;
     }
 }

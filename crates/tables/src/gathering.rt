@@ -1,14 +1,11 @@
 // What one pass over the tables tells of a place, as sets of slots.
 ghost use mathlib.Core.Path.{_≡_};
 ghost use mathlib.Core.Bool.{_&&_, _||_};
-ghost use Prim.Native.Nat.{ℕ, _+_, _<_};
-ghost use lib.ListN.{length};
+ghost use Prim.Native.Nat.{ℕ, _<_};
 ghost use lib.Dec.{eqb};
-ghost use Rattle.rules.specs.Constants.{slotCount};
 ghost use Rattle.slots.specs.Set.{bit};
-ghost use Rattle.tables.specs.View.{viewTables, viewLists};
+ghost use Rattle.tables.specs.View.{slotsBefore};
 ghost use Rattle.tables.specs.Gathers.{Gathers};
-use crate::Tables;
 use crate::bools::both;
 use rules::NO_PLACE;
 use rules::Place;
@@ -35,16 +32,16 @@ fn mark(word: u64, b: u64, on: bool) -> u64
     word
 }
 
-// The sets of the place p in three tables that are lent.
-fn gather_lists<'a>(
+// The sets of the place p, by one pass over the tables.
+pub fn gather<'a>(
     target: &'a [u8; SLOTS],
     holder: &'a [u8; SLOTS],
     waiting: &'a [bool; SLOTS],
     p: Place,
 ) -> PlaceSets
-    requires { ⌜ (length (now target) ≡ slotCount) × (length (now holder) ≡ slotCount) × (length (now waiting) ≡ slotCount) ⌝ }
-    ensures { λ r. ⌜ Gathers (p .0) (viewLists (now (target .entry)) (now (holder .entry)) (now (waiting .entry))) r ⌝ }
+    ensures { λ r. ⌜ Gathers (p .0) (slotsBefore target holder waiting) r ⌝ }
 {
+    crate::sized(target, holder, waiting);
     let mut assigned: [u64; WORDS] = [0; WORDS];
     let mut revoking: [u64; WORDS] = [0; WORDS];
     let mut targets: [u64; WORDS] = [0; WORDS];
@@ -67,14 +64,5 @@ fn gather_lists<'a>(
         revoking: SlotSet { words: revoking },
         target: SlotSet { words: targets },
         claimable: SlotSet { words: claimable },
-    }
-}
-
-impl Tables {
-    // The sets of the place p, by one pass over the tables.
-    pub fn gather(self, p: Place) -> PlaceSets
-        ensures { λ r. ⌜ Gathers (p .0) (viewTables self) r ⌝ }
-    {
-        gather_lists(&self.target, &self.holder, &self.waiting, p)
     }
 }

@@ -1,21 +1,19 @@
-// Tests of a place on the tables.
+// Tests of a place, each on one table.
 ghost use mathlib.Core.Path.{_≡_};
-ghost use mathlib.Core.Bool.{true, false, not};
+ghost use mathlib.Core.Bool.{not};
 ghost use lib.Dec.{eqb};
 ghost use lib.ListN.{getD};
 ghost use Rattle.rules.specs.Basics.{any};
 ghost use Rattle.rules.specs.Constants.{noPlace};
-ghost use Rattle.rules.specs.Group.{targeted};
-ghost use Rattle.tables.specs.View.{viewTables};
-ghost use Rattle.tables.specs.Places.{holderNot};
-use crate::Tables;
+ghost use Rattle.tables.specs.Places.{isPlace, TellsTarget, TellsHolder, TellsUnheld};
+use crate::bools::either;
 use rules::Place;
 use rules::SLOTS;
 use rules::Slot;
 
-// Whether some slot of the list has another holder than p; numbers of 1024 and more have none.
-fn any_unheld<'a>(holder: &'a [u8; SLOTS], list: &'a [u16], p: Place) -> bool
-    ensures { λ r. ⌜ r ≡ any (λ s. not (eqb (getD (now (holder .entry)) s noPlace) (p .0))) (now (list .entry)) ⌝ }
+// Whether some slot of the list is not held by p; numbers that are no slots are held by nobody.
+pub fn lists_unheld<'a>(holder: &'a [u8; SLOTS], p: Place, list: &'a [u16]) -> bool
+    ensures { λ r. ⌜ TellsUnheld (p .0) (now (holder .entry)) (now (list .entry)) r ⌝ }
 {
     let mut i: usize = 0;
     while i < list.len() {
@@ -28,19 +26,31 @@ fn any_unheld<'a>(holder: &'a [u8; SLOTS], list: &'a [u16], p: Place) -> bool
     false
 }
 
-impl Tables {
-    // Whether some slot of the list is not held by p; numbers that are no slots are held by nobody.
-    pub fn lists_unheld(self, p: Place, list: &[u16]) -> bool
-        ensures { λ r. ⌜ r ≡ any (holderNot (viewTables self) (p .0)) (now (list .entry)) ⌝ }
-    {
-        any_unheld(&self.holder, list, p)
+// Whether p stands in some entry of a table. Every entry is looked at, by a test without branches.
+fn names(entries: &[u8; SLOTS], p: Place) -> bool
+    ensures { λ r. ⌜ r ≡ any (isPlace (p .0)) (now (entries .entry)) ⌝ }
+{
+    let all: &[u8] = entries;
+    let mut found = false;
+    let mut i: usize = 0;
+    while i < SLOTS {
+        let e = entries[i];
+        found = either(found, e == p.0);
+        i += 1;
     }
+    found
+}
 
-    // Whether p is the target of some slot.
-    pub fn has_target(self, p: Place) -> bool
-        ensures { λ r. ⌜ r ≡ any (targeted (p .0)) (viewTables self) ⌝ }
-    {
-        let sets = self.gather(p);
-        !sets.target.is_empty()
-    }
+// Whether p is the target of some slot.
+pub fn has_target(target: &[u8; SLOTS], p: Place) -> bool
+    ensures { λ r. ⌜ TellsTarget (p .0) (now (target .entry)) r ⌝ }
+{
+    names(target, p)
+}
+
+// Whether p is the holder of some slot.
+pub fn is_holder(holder: &[u8; SLOTS], p: Place) -> bool
+    ensures { λ r. ⌜ TellsHolder (p .0) (now (holder .entry)) r ⌝ }
+{
+    names(holder, p)
 }

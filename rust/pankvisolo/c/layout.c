@@ -10,28 +10,21 @@
            sizeof(((struct pankvisolo_##name *)0)->field))
 
 int main(void) {
-    STRUCT(topic);
-    FIELD(topic, id);
-    FIELD(topic, count);
-    STRUCT(seat);
-    FIELD(seat, id);
-    FIELD(seat, epoch);
-    FIELD(seat, subscription);
-    FIELD(seat, timeout);
-    FIELD(seat, heard);
-    FIELD(seat, revoked_at);
-    FIELD(seat, used);
-    STRUCT(tables);
-    FIELD(tables, target);
-    FIELD(tables, holder);
-    FIELD(tables, waiting);
     STRUCT(group);
     FIELD(group, epoch);
     FIELD(group, target_epoch);
     FIELD(group, tick);
-    FIELD(group, topics);
-    FIELD(group, seats);
-    FIELD(group, tables);
+    FIELD(group, member_ids);
+    FIELD(group, member_epochs);
+    FIELD(group, subscriptions);
+    FIELD(group, timeouts);
+    FIELD(group, heard);
+    FIELD(group, revoked_at);
+    FIELD(group, topic_ids);
+    FIELD(group, topic_counts);
+    FIELD(group, target);
+    FIELD(group, holder);
+    FIELD(group, waiting);
     STRUCT(request);
     FIELD(request, id);
     FIELD(request, epoch);
@@ -49,8 +42,5 @@ int main(void) {
     FIELD(reply, count);
     FIELD(reply, slot);
     FIELD(reply, written);
-    STRUCT(served);
-    FIELD(served, group);
-    FIELD(served, reply);
     return 0;
 }

@@ -6,10 +6,11 @@ use crate::protocol::{Answer, Reply};
 use crate::refusal::Refusal;
 
 /// The number of an event that was accepted.
-pub(crate) const ACCEPTED: u32 = 0;
+const ACCEPTED: u32 = 0;
 /// The epoch of an answer to a leave; no member has it.
 const LEFT: i64 = -1;
 
+#[inline]
 pub(crate) fn of_heartbeat(reply: &ffi::Reply) -> Reply {
     answered(reply, |reply| match reply.epoch {
         LEFT => Answer::Left,
@@ -21,15 +22,18 @@ pub(crate) fn of_heartbeat(reply: &ffi::Reply) -> Reply {
     })
 }
 
+#[inline]
 pub(crate) fn of_sweep(reply: &ffi::Reply) -> Reply {
     answered(reply, |reply| Answer::Swept(reply.count))
 }
 
 /// A topic's or an install's.
+#[inline]
 pub(crate) fn of_change(reply: &ffi::Reply) -> Reply {
     answered(reply, |_| Answer::Done)
 }
 
+#[inline]
 fn answered(reply: &ffi::Reply, accepted: impl Fn(&ffi::Reply) -> Answer) -> Reply {
     let answer = match reply.number {
         ACCEPTED => accepted(reply),

@@ -1,59 +1,36 @@
 //! The functions of the static library and the structs that cross to them, declared as the Rattle
-//! crates `exports`, `events`, `group` and `tables` have them. Nothing checks that they are equal but
-//! the tests of the layout. The C declarations of the same are in include/pankvisolo.h.
+//! crates `pankvisolo`, `events` and `group` have them. Nothing checks that they are equal but the
+//! tests of the layout. The C declarations of the same are in include/pankvisolo.h.
 //!
 //! This is the only module of the workspace with `unsafe` in it; its functions are safe.
 
 pub(crate) const TOPICS: usize = 16;
 pub(crate) const PLACES: usize = 32;
 pub(crate) const SLOTS: usize = 1_024;
-/// In `Tables`: no place.
+/// In `target` and `holder`: no place.
 pub(crate) const NO_PLACE: u8 = 255;
 
-/// With count 0 there is no such topic.
-#[derive(Clone, Copy)]
-#[cfg_attr(feature = "testing", derive(PartialEq))]
-#[repr(C)]
-pub(crate) struct Topic {
-    pub id: [u8; 16],
-    pub count: u8,
-}
-
-/// A place and, where it is `used`, the member at it.
-#[derive(Clone, Copy)]
-#[cfg_attr(feature = "testing", derive(PartialEq))]
-#[repr(C)]
-pub(crate) struct Seat {
-    pub id: [u8; 16],
-    pub epoch: u32,
-    pub subscription: u16,
-    pub timeout: u32,
-    pub heard: u32,
-    pub revoked_at: u32,
-    pub used: bool,
-}
-
-/// By slot: the place that is to have it, the place that has it, and whether that one is giving it
-/// back.
-#[derive(Clone, Copy)]
-#[cfg_attr(feature = "testing", derive(PartialEq))]
-#[repr(C)]
-pub(crate) struct Tables {
-    pub target: [u8; SLOTS],
-    pub holder: [u8; SLOTS],
-    pub waiting: [bool; SLOTS],
-}
-
-#[derive(Clone, Copy)]
+/// Members stand in columns by place, their IDs as `ids` says. Three columns are by slot: the place
+/// that is to have it, the place that has it, and whether that one is giving it back.
+#[derive(Clone)]
 #[cfg_attr(feature = "testing", derive(PartialEq))]
 #[repr(C)]
 pub(crate) struct Group {
     pub epoch: u32,
     pub target_epoch: u32,
     pub tick: u32,
-    pub topics: [Topic; TOPICS],
-    pub seats: [Seat; PLACES],
-    pub tables: Tables,
+    pub member_ids: [[u32; PLACES]; 4],
+    pub member_epochs: [u32; PLACES],
+    pub subscriptions: [u32; PLACES],
+    pub timeouts: [u32; PLACES],
+    pub heard: [u32; PLACES],
+    pub revoked_at: [u32; PLACES],
+    pub topic_ids: [[u8; 16]; TOPICS],
+    /// With count 0 there is no topic of the number.
+    pub topic_counts: [u8; TOPICS],
+    pub target: [u8; SLOTS],
+    pub holder: [u8; SLOTS],
+    pub waiting: [bool; SLOTS],
 }
 
 /// A heartbeat, but for its list of owned slots, which counts only where `has_list`.
@@ -87,55 +64,48 @@ pub(crate) struct Reply {
     pub written: usize,
 }
 
-/// The group after an event, and the answer.
-#[repr(C)]
-pub(crate) struct Served {
-    pub group: Group,
-    pub reply: Reply,
-}
-
-/// A slice crosses as a pointer and then a length.
+/// A group crosses as a pointer, a slice as a pointer and then a length.
 mod exported {
-    use super::{Group, Id, Request, Served};
+    use super::{Group, Id, Reply, Request};
 
     extern "C" {
         pub fn pankvisolo_fresh(tick: u32) -> Group;
 
         pub fn pankvisolo_heartbeat(
-            group: Group,
-            request: Request,
+            group: *mut Group,
+            request: *const Request,
             owned: *const u16,
             owned_length: usize,
             records: *mut u8,
             records_length: usize,
             list: *mut u16,
             list_length: usize,
-        ) -> Served;
+        ) -> Reply;
 
         pub fn pankvisolo_sweep(
-            group: Group,
+            group: *mut Group,
             tick: u32,
             records: *mut u8,
             records_length: usize,
-        ) -> Served;
+        ) -> Reply;
 
-        pub fn pankvisolo_topic(
-            group: Group,
+        pub fn pankvisolo_set_topic(
+            group: *mut Group,
             number: u32,
             id: Id,
             count: u32,
             records: *mut u8,
             records_length: usize,
-        ) -> Served;
+        ) -> Reply;
 
         pub fn pankvisolo_install(
-            group: Group,
+            group: *mut Group,
             epoch: i32,
             entries: *const u8,
             entries_length: usize,
             records: *mut u8,
             records_length: usize,
-        ) -> Served;
+        ) -> Reply;
     }
 }
 
@@ -145,20 +115,22 @@ pub(crate) fn fresh(tick: u32) -> Group {
     unsafe { exported::pankvisolo_fresh(tick) }
 }
 
+#[inline]
 pub(crate) fn heartbeat(
-    group: &Group,
-    request: Request,
+    group: &mut Group,
+    request: &Request,
     owned: &[u16],
     records: &mut [u8],
     list: &mut [u16],
-) -> Served {
-    // SAFETY: the function has no `requires`, so it takes every value. It reads `owned` and reads and
-    // writes `records` and `list` within the lengths that go with them, and keeps none of them; the
-    // slices are lent for the call, so each pointer is good for its length, an empty one's too, and
-    // the two that are written overlap with nothing. What comes back: as for `fresh`.
+) -> Reply {
+    // SAFETY: the function has no `requires`, so it takes every value. It reads and writes the group,
+    // reads the request and `owned`, and reads and writes `records` and `list` within the lengths that go with them, and
+    // keeps none of them; all are lent for the call, so each pointer is good for its length, an empty
+    // slice's too, and the three that are written overlap with nothing. It leaves a group that is a
+    // value of Rattle's type, as for `fresh`.
     unsafe {
         exported::pankvisolo_heartbeat(
-            *group,
+            group,
             request,
             owned.as_ptr(),
             owned.len(),
@@ -170,16 +142,24 @@ pub(crate) fn heartbeat(
     }
 }
 
-pub(crate) fn sweep(group: &Group, tick: u32, records: &mut [u8]) -> Served {
-    // SAFETY: as for `heartbeat`, with `records` alone lent.
-    unsafe { exported::pankvisolo_sweep(*group, tick, records.as_mut_ptr(), records.len()) }
+#[inline]
+pub(crate) fn sweep(group: &mut Group, tick: u32, records: &mut [u8]) -> Reply {
+    // SAFETY: as for `heartbeat`, with the group and `records` lent.
+    unsafe { exported::pankvisolo_sweep(group, tick, records.as_mut_ptr(), records.len()) }
 }
 
-pub(crate) fn topic(group: &Group, number: u32, id: Id, count: u32, records: &mut [u8]) -> Served {
-    // SAFETY: as for `heartbeat`, with `records` alone lent.
+#[inline]
+pub(crate) fn set_topic(
+    group: &mut Group,
+    number: u32,
+    id: Id,
+    count: u32,
+    records: &mut [u8],
+) -> Reply {
+    // SAFETY: as for `heartbeat`, with the group and `records` lent.
     unsafe {
-        exported::pankvisolo_topic(
-            *group,
+        exported::pankvisolo_set_topic(
+            group,
             number,
             id,
             count,
@@ -189,11 +169,12 @@ pub(crate) fn topic(group: &Group, number: u32, id: Id, count: u32, records: &mu
     }
 }
 
-pub(crate) fn install(group: &Group, epoch: i32, entries: &[u8], records: &mut [u8]) -> Served {
-    // SAFETY: as for `heartbeat`, with `entries` read and `records` written.
+#[inline]
+pub(crate) fn install(group: &mut Group, epoch: i32, entries: &[u8], records: &mut [u8]) -> Reply {
+    // SAFETY: as for `heartbeat`, with `entries` read, and the group and `records` written.
     unsafe {
         exported::pankvisolo_install(
-            *group,
+            group,
             epoch,
             entries.as_ptr(),
             entries.len(),

@@ -2,16 +2,17 @@
 
 use crate::answers;
 use crate::ffi;
+use crate::ids;
 use crate::protocol::{Heartbeat, Id, Member, Reply, Topic};
 
 /// A consumer group: its topics, its members, who holds which slot and who is to. Partition p of
 /// topic t is slot 64t + p.
 ///
-/// It is one plain value of some 4,600 bytes and has nothing on the heap.
+/// It is one plain value of some 4,500 bytes and has nothing on the heap. An event is lent it and
+/// changes it where it stands.
 ///
 /// With the feature `testing` two groups are equal where every field of the library's struct is,
-/// those too that no function here shows, such as the ID of a place that is free. The bytes between
-/// the fields belong to none and aren't compared.
+/// those too that no function here shows, such as when a place that is free was last heard.
 #[derive(Clone)]
 #[cfg_attr(feature = "testing", derive(PartialEq))]
 pub struct Group {
@@ -42,6 +43,7 @@ impl Group {
     }
 
     /// A member joins, leaves or says that it is there. The slots of the answer go to `assignment`.
+    #[inline]
     pub fn heartbeat(
         &mut self,
         request: &Heartbeat,
@@ -58,36 +60,27 @@ impl Group {
             has_list: request.owned.is_some(),
         };
         let owned = request.owned.unwrap_or(&[]);
-        let served = ffi::heartbeat(&self.value, sent, owned, records, assignment);
-        answers::of_heartbeat(self.keep(&served))
+        let reply = ffi::heartbeat(&mut self.value, &sent, owned, records, assignment);
+        answers::of_heartbeat(&reply)
     }
 
     /// Removes the members that weren't heard for too long, or took too long to give slots back.
+    #[inline]
     pub fn sweep(&mut self, tick: u32, records: &mut [u8]) -> Reply {
-        let served = ffi::sweep(&self.value, tick, records);
-        answers::of_sweep(self.keep(&served))
+        answers::of_sweep(&ffi::sweep(&mut self.value, tick, records))
     }
 
     /// Makes a topic, or raises its number of partitions.
+    #[inline]
     pub fn topic(&mut self, number: u32, id: Id, count: u32, records: &mut [u8]) -> Reply {
         let id = ffi::Id { bytes: id };
-        let served = ffi::topic(&self.value, number, id, count, records);
-        answers::of_change(self.keep(&served))
+        answers::of_change(&ffi::set_topic(&mut self.value, number, id, count, records))
     }
 
     /// Sets who is to have each slot: an entry for each of the 1,024, a place or 255 for nobody.
+    #[inline]
     pub fn install(&mut self, epoch: i32, entries: &[u8], records: &mut [u8]) -> Reply {
-        let served = ffi::install(&self.value, epoch, entries, records);
-        answers::of_change(self.keep(&served))
-    }
-
-    /// The group that came back is the group from here on. A refused event brings back the one that
-    /// went in, which is proved, so that one isn't copied; with `testing` it is, so that tests see it.
-    pub(crate) fn keep<'a>(&mut self, served: &'a ffi::Served) -> &'a ffi::Reply {
-        if cfg!(feature = "testing") || served.reply.number == answers::ACCEPTED {
-            self.value = served.group;
-        }
-        &served.reply
+        answers::of_change(&ffi::install(&mut self.value, epoch, entries, records))
     }
 }
 
@@ -110,41 +103,43 @@ impl Group {
 
     /// None where there is no such topic, and above 15.
     pub fn topic_at(&self, number: u8) -> Option<Topic> {
-        let topic = self.value.topics.get(usize::from(number))?;
-        (topic.count > 0).then_some(Topic {
-            id: topic.id,
-            count: topic.count,
+        let number = usize::from(number);
+        let count = *self.value.topic_counts.get(number)?;
+        (count > 0).then_some(Topic {
+            id: self.value.topic_ids[number],
+            count,
         })
     }
 
     /// None where the place is free, and above 31.
     pub fn member_at(&self, place: u8) -> Option<Member> {
-        let seat = self.value.seats.get(usize::from(place))?;
-        if !seat.used {
+        let at = usize::from(place);
+        if at >= ffi::PLACES {
             return None;
         }
+        let group = &self.value;
         Some(Member {
-            id: seat.id,
-            epoch: signed(seat.epoch),
-            subscription: seat.subscription,
-            timeout: seat.timeout,
+            id: ids::of(group.member_ids.each_ref().map(|column| column[at]))?,
+            epoch: signed(group.member_epochs[at]),
+            subscription: subscription(group.subscriptions[at]),
+            timeout: group.timeouts[at],
             assigned: self.held(place, false),
             revoking: self.held(place, true),
-            heard: seat.heard,
-            revoked_at: seat.revoked_at,
+            heard: group.heard[at],
+            revoked_at: group.revoked_at[at],
         })
     }
 
     /// None where the slot has no target, and above 1,023.
     pub fn target_of(&self, slot: u16) -> Option<u8> {
-        let place = *self.value.tables.target.get(usize::from(slot))?;
+        let place = *self.value.target.get(usize::from(slot))?;
         (place != ffi::NO_PLACE).then_some(place)
     }
 
     /// The slots that the place holds and is, or isn't, giving back.
     fn held(&self, place: u8, waiting: bool) -> Vec<u16> {
-        let tables = &self.value.tables;
-        let slots = (0..).zip(tables.holder.iter().zip(&tables.waiting));
+        let group = &self.value;
+        let slots = (0..).zip(group.holder.iter().zip(&group.waiting));
         let held = slots.filter(|(_, of_slot)| *of_slot == (&place, &waiting));
         held.map(|(slot, _)| slot).collect()
     }
@@ -153,4 +148,9 @@ impl Group {
 /// An epoch within the group is unsigned and at most 2,147,483,647, so nothing is lost.
 fn signed(epoch: u32) -> i32 {
     epoch as i32
+}
+
+/// A subscription stands in a column of wider numbers and is one of 16 bits, so nothing is lost.
+fn subscription(column: u32) -> u16 {
+    column as u16
 }

@@ -38,6 +38,7 @@ mod answers;
 #[allow(unsafe_code)]
 mod ffi;
 mod group;
+mod ids;
 mod protocol;
 mod refusal;
 

@@ -52,23 +52,39 @@ impl Refusal {
     }
 
     /// The refusal with 01's number; the slot counts for `BadTarget` alone. None: no refusal has it.
+    #[inline]
     pub(crate) fn of(number: u32, slot: u16) -> Option<Refusal> {
-        let refusals = [
-            Refusal::Clock,
-            Refusal::InvalidRequest,
-            Refusal::UnknownMemberId,
-            Refusal::GroupMaxSizeReached,
-            Refusal::FencedMemberEpoch,
-            Refusal::BadTarget { slot },
-            Refusal::Stale,
-            Refusal::Already,
-            Refusal::BadTopic,
-            Refusal::EpochEnd,
-            Refusal::Room,
-        ];
-        let mut of_number = refusals
-            .into_iter()
-            .filter(|refusal| u32::from(refusal.number()) == number);
-        of_number.next()
+        Some(match number {
+            1001 => Refusal::Clock,
+            42 => Refusal::InvalidRequest,
+            25 => Refusal::UnknownMemberId,
+            81 => Refusal::GroupMaxSizeReached,
+            110 => Refusal::FencedMemberEpoch,
+            1006 => Refusal::BadTarget { slot },
+            1004 => Refusal::Stale,
+            1005 => Refusal::Already,
+            1007 => Refusal::BadTopic,
+            1002 => Refusal::EpochEnd,
+            1003 => Refusal::Room,
+            _ => return None,
+        })
+    }
+}
+
+#[cfg(test)]
+mod tests {
+    use super::*;
+
+    #[test]
+    fn a_refusal_is_the_one_of_its_number() {
+        let of_number = |number| Refusal::of(number, 7);
+        let refusals: Vec<(u32, Refusal)> = (0..=u32::from(u16::MAX))
+            .filter_map(|number| Some((number, of_number(number)?)))
+            .collect();
+        assert_eq!(refusals.len(), 11);
+        for (number, refusal) in refusals {
+            assert_eq!(u32::from(refusal.number()), number);
+        }
+        assert_eq!(of_number(1006), Some(Refusal::BadTarget { slot: 7 }));
     }
 }

@@ -1,12 +1,12 @@
 //! Two coordinators side by side on seeded random events. After every event, refused ones too,
 //! their answers, the whole lent buffer, the whole lent list and the whole group, by its parts, are
-//! compared. A refused event must hand back the very group that went in, every field of it, shown or
+//! compared. A refused event must leave the very group that there was, every field of it, shown or
 //! not. Besides, each answer is held against 01's table, the group against the one that is read from
 //! the stored records, and 01's ledger, fed nothing of the group, watches that no slot is with two
 //! members. From random points of a run three rounds of heartbeats must bring every member to its
 //! target.
 //!
-//! Where the two coordinators are named: `sides`. How a coordinator is plugged in: `coordinator`.
+//! Where the coordinators are named: `sides`. How a coordinator is plugged in: `coordinator`.
 #![forbid(unsafe_code)]
 
 pub mod coordinator;

@@ -14,8 +14,8 @@ const EVENTS: u64 = if cfg!(debug_assertions) {
 } else {
     1_000_000
 };
-/// Of the tuned one the events of a few seconds.
-const EVENTS_OF_TUNED: u64 = EVENTS / 5;
+/// The tuned one, which is slow to look at, gets a part of them.
+const EVENTS_OF_TUNED: u64 = EVENTS / 10;
 
 fn without_difference<S: Coordinator>(seed: u64, events: u64) -> Tally {
     let plan = Plan {

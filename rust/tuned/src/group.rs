@@ -3,11 +3,9 @@
 
 use std::collections::HashMap;
 
-use plain::{
-    Id, Member, Refusal, Topic, CLOCK_WENT_BACK, NO_PLACE, PLACES, SESSION_TIMEOUT, SLOTS, TOPICS,
-};
+use plain::{Id, Member, Refusal, Topic, CLOCK_WENT_BACK, PLACES, SESSION_TIMEOUT, SLOTS, TOPICS};
 
-use crate::slots::Slots;
+use crate::slots::{remove, Slots, Words};
 
 #[derive(Clone, PartialEq, Eq)]
 pub struct Group {
@@ -17,16 +15,16 @@ pub struct Group {
     pub(crate) target_epoch: i32,
     pub(crate) last_tick: u32,
     pub(crate) topics: [Option<Topic>; TOPICS],
-    /// The place of each member.
-    pub(crate) places: HashMap<Id, u8>,
+    /// The place of each member, by the `key` of its ID.
+    pub(crate) places: HashMap<u128, u8>,
     /// Bit k: a member is at place k.
     pub(crate) used: u32,
     /// By place. What is at a free place doesn't count.
     pub(crate) seats: [Seat; PLACES],
     /// By place; all empty at a free one.
     pub(crate) sets: [Sets; PLACES],
-    /// By slot: the place that has it in A or in P, or `NO_PLACE`.
-    pub(crate) holders: [u8; SLOTS],
+    /// The slots that are in A or in P of some member.
+    pub(crate) held: Words,
 }
 
 /// A member without its sets, so that a sweep finds all it reads close together.
@@ -81,7 +79,7 @@ impl Group {
             used: 0,
             seats: [NO_SEAT; PLACES],
             sets: [NO_SETS; PLACES],
-            holders: [NO_PLACE; SLOTS],
+            held: [0; TOPICS],
         }
     }
 
@@ -145,7 +143,7 @@ impl Group {
     /// 25: "ordinary or leave, ID unknown".
     #[inline]
     pub(crate) fn place_of(&self, id: &Id) -> Result<usize, Refusal> {
-        let place = self.places.get(id).ok_or(Refusal::UnknownMemberId)?;
+        let place = self.places.get(&key(id)).ok_or(Refusal::UnknownMemberId)?;
         Ok(usize::from(*place))
     }
 
@@ -177,23 +175,29 @@ impl Group {
     #[inline]
     pub(crate) fn vacate(&mut self, place: usize) {
         let sets = &mut self.sets[place];
-        if *sets == NO_SETS {
+        if [&sets.assigned, &sets.revoking, &sets.target]
+            .iter()
+            .all(|set| set.is_empty())
+        {
             return;
         }
-        for held in [&sets.assigned, &sets.revoking] {
-            if !held.is_empty() {
-                held.for_each(|slot| self.holders[usize::from(slot)] = NO_PLACE);
-            }
-        }
+        remove(&mut self.held, &sets.assigned);
+        remove(&mut self.held, &sets.revoking);
         *sets = NO_SETS;
     }
 
     /// The member at the place goes; "a place freed is used again".
     pub(crate) fn remove(&mut self, place: usize) {
-        self.places.remove(&self.seats[place].id);
+        self.places.remove(&key(&self.seats[place].id));
         self.used &= !(1 << place);
         self.vacate(place);
     }
+}
+
+/// An ID as one number, which is hashed quicker than sixteen bytes and their length.
+#[inline]
+pub(crate) fn key(id: &Id) -> u128 {
+    u128::from_ne_bytes(*id)
 }
 
 /// The places of a mask, rising.

@@ -2,7 +2,7 @@
 
 use plain::{Heartbeat, Id, Refusal, Reply, LARGEST_TIMEOUT, PLACES};
 
-use crate::group::{Group, Seat};
+use crate::group::{key, Group, Seat};
 use crate::heartbeat::assigned;
 use crate::records::store;
 use crate::slots::Slots;
@@ -31,7 +31,7 @@ impl Group {
         let is_new = self.used >> place & 1 == 0;
         if is_new {
             self.used |= 1 << place;
-            self.places.insert(seat.id, place as u8);
+            self.places.insert(key(&seat.id), place as u8);
         } else {
             // "its A, P and target are emptied first".
             self.vacate(place);
@@ -45,7 +45,7 @@ impl Group {
 
     /// "A joiner takes the lowest free place"; 81: "join, ID unknown, 32 members".
     fn place_for(&self, id: &Id) -> Result<usize, Refusal> {
-        if let Some(place) = self.places.get(id) {
+        if let Some(place) = self.places.get(&key(id)) {
             return Ok(usize::from(*place));
         }
         match self.used.trailing_ones() as usize {

@@ -2,8 +2,9 @@
 //! for the proved coordinator, beside `plain`, which is written to be read.
 //!
 //! A member is found in a hash map by its ID, with the standard hasher. Its A, P and target are sets
-//! of sixteen words, and a table has the holder of each slot. No event allocates but a join of a new
-//! member, and that only where the map grows. What changes nothing returns before anything is built.
+//! of sixteen words, and so are the slots that anybody holds. Nothing is allocated but where the map
+//! grows, which it seldom does, since it has room for all members from the start. What changes nothing
+//! returns before anything is built.
 //!
 //! Every event is decided first, as in `plain`, and what goes in and comes out are `plain`'s types.
 //! Comments in quotation marks are 01's sentences, shortened.

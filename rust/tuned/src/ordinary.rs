@@ -1,13 +1,22 @@
 //! The ordinary heartbeat, "with M the target slots of this member".
 
-use plain::{Heartbeat, Refusal, Reply, LARGEST_TIMEOUT, NO_PLACE, NO_TIMEOUT, SLOTS};
+use plain::{Heartbeat, Refusal, Reply, LARGEST_TIMEOUT, NO_TIMEOUT, SLOTS};
 
 use crate::group::{Group, Seat, Sets};
 use crate::heartbeat::assigned;
-use crate::records::store;
-use crate::slots::Slots;
+use crate::records::{store, Records};
+use crate::slots::{add, remove, Slots};
 
-/// What steps 2 and 3 make of E, A and P where they change one of them.
+/// All that an accepted heartbeat leaves, decided before anything is changed.
+struct Outcome {
+    subscription: u16,
+    timeout: u32,
+    group_epoch: i32,
+    /// None where A, P and E stay.
+    holding: Option<Holding>,
+}
+
+/// What steps 2 and 3 make of E, A and P.
 struct Holding {
     epoch: i32,
     assigned: Slots,
@@ -31,8 +40,7 @@ impl Group {
             return Err(Refusal::FencedMemberEpoch);
         }
         // 42 again: "ordinary, a listed slot is in neither A nor P".
-        let is_held = |&slot: &u16| usize::from(self.holders[usize::from(slot)]) == place;
-        if !request.owned.unwrap_or_default().iter().all(is_held) {
+        if !request.owned.is_none_or(|list| holds(sets, list)) {
             return Err(Refusal::InvalidRequest);
         }
         if keeps_metadata(request, seat) && self.is_settled(seat, sets) {
@@ -61,50 +69,54 @@ impl Group {
         records: &mut [u8],
         assignment: &mut [u16],
     ) -> Result<Reply, Refusal> {
-        let (seat, sets) = (&self.seats[place], &self.sets[place]);
-        // "1. A given subscription that differs is stored and G rises by one. A given timeout is
-        // stored."
-        let subscription = request.subscription.unwrap_or(seat.subscription);
-        let timeout = match request.timeout {
-            NO_TIMEOUT => seat.timeout,
-            given => given as u32,
-        };
-        let group_epoch = match subscription == seat.subscription {
-            true => self.epoch,
-            false => self.raised_epoch()?,
-        };
-        let holding = self.advanced(place, request);
-        let (epoch, slots) = match &holding {
+        let outcome = self.outcome(place, request)?;
+        let (epoch, slots) = match &outcome.holding {
             Some(holding) => (holding.epoch, &holding.assigned),
-            None => (seat.epoch, &sets.assigned),
+            None => (self.seats[place].epoch, &self.sets[place].assigned),
         };
         let told = room(assignment, slots)?;
-        // "Ordinary: 5 if subscription or timeout changed, 3 if G did, 8 if E, A or P did."
-        let written = store(records, |log| {
-            if (timeout, subscription) != (seat.timeout, seat.subscription) {
-                log.member(place, &seat.id, timeout, subscription);
-            }
-            if group_epoch != self.epoch {
-                log.group_epoch(group_epoch);
-            }
-            if let Some(holding) = &holding {
-                log.assignment(place, holding.epoch, &holding.assigned, &holding.revoking);
-            }
-        })?;
+        let written = store(records, |log| self.log(place, &outcome, log))?;
 
         tell(told, slots);
         let count = told.len();
-        if let Some(holding) = &holding {
-            self.hold(place, holding);
-        }
-        let seat = &mut self.seats[place];
-        seat.subscription = subscription;
-        seat.timeout = timeout;
-        // "Accepted heartbeats set the last-heard tick", "and the group's last tick".
-        seat.heard = request.tick;
-        self.last_tick = request.tick;
-        self.epoch = group_epoch;
+        self.settle(place, request.tick, &outcome);
         Ok(assigned(epoch, count, written))
+    }
+
+    /// "1. A given subscription that differs is stored and G rises by one. A given timeout is
+    /// stored." Steps 2 and 3 are `advanced`.
+    #[inline]
+    fn outcome(&self, place: usize, request: &Heartbeat) -> Result<Outcome, Refusal> {
+        let seat = &self.seats[place];
+        let subscription = request.subscription.unwrap_or(seat.subscription);
+        Ok(Outcome {
+            subscription,
+            timeout: match request.timeout {
+                NO_TIMEOUT => seat.timeout,
+                given => given as u32,
+            },
+            group_epoch: match subscription == seat.subscription {
+                true => self.epoch,
+                false => self.raised_epoch()?,
+            },
+            holding: self.advanced(place, request),
+        })
+    }
+
+    /// "Ordinary: 5 if subscription or timeout changed, 3 if G did, 8 if E, A or P did."
+    #[inline]
+    fn log(&self, place: usize, outcome: &Outcome, log: &mut Records) {
+        let seat = &self.seats[place];
+        let (timeout, subscription) = (outcome.timeout, outcome.subscription);
+        if (timeout, subscription) != (seat.timeout, seat.subscription) {
+            log.member(place, &seat.id, timeout, subscription);
+        }
+        if outcome.group_epoch != self.epoch {
+            log.group_epoch(outcome.group_epoch);
+        }
+        if let Some(holding) = &outcome.holding {
+            log.assignment(place, holding.epoch, &holding.assigned, &holding.revoking);
+        }
     }
 
     /// E, A and P after steps 2 and 3; None where they stay.
@@ -113,12 +125,9 @@ impl Group {
         let (seat, now) = (&self.seats[place], &self.sets[place]);
         // "2. If P is not empty: when a list is given and has no slot of P, all of P is freed and
         // step 3 follows. Otherwise A, P and E stay."
+        let has_none = |list| has_none_of(list, &now.revoking);
         let frees = !now.revoking.is_empty();
-        if frees
-            && !request
-                .owned
-                .is_some_and(|list| has_none_of(list, &now.revoking))
-        {
+        if frees && !request.owned.is_some_and(has_none) {
             return None;
         }
         // "3. (P empty.) If A has slots outside M, those move to P, and A keeps the rest; E stays."
@@ -133,32 +142,38 @@ impl Group {
         // "Otherwise E becomes the larger of E and T, and every slot of M that nobody holds enters
         // A." What step 2 freed is held by nobody.
         let epoch = seat.epoch.max(self.target_epoch);
-        let entering = now.target.minus(&now.assigned).filter(|slot| {
-            self.holders[usize::from(slot)] == NO_PLACE || now.revoking.contains(slot)
-        });
-        if !frees && epoch == seat.epoch && entering.is_empty() {
+        let (held, freed) = (&self.held, &now.revoking);
+        let assigned = now.assigned.with_free(&now.target, held, freed);
+        if !frees && epoch == seat.epoch && assigned.count() == now.assigned.count() {
             return None;
         }
         Some(Holding {
             epoch,
-            assigned: now.assigned.or(&entering),
+            assigned,
             revoking: Slots::EMPTY,
             revoked_at: seat.revoked_at,
         })
     }
 
-    /// The member has E, A and P of `holding`. What it was giving back is free.
     #[inline]
-    fn hold(&mut self, place: usize, holding: &Holding) {
+    fn settle(&mut self, place: usize, tick: u32, outcome: &Outcome) {
+        self.epoch = outcome.group_epoch;
+        // "Accepted heartbeats and sweeps set the group's last tick."
+        self.last_tick = tick;
         let (seat, sets) = (&mut self.seats[place], &mut self.sets[place]);
-        sets.revoking
-            .for_each(|slot| self.holders[usize::from(slot)] = NO_PLACE);
-        let entering = holding.assigned.minus(&sets.assigned);
-        entering.for_each(|slot| self.holders[usize::from(slot)] = place as u8);
-        seat.epoch = holding.epoch;
-        seat.revoked_at = holding.revoked_at;
-        sets.assigned = holding.assigned;
-        sets.revoking = holding.revoking;
+        seat.subscription = outcome.subscription;
+        seat.timeout = outcome.timeout;
+        // "Accepted heartbeats set the last-heard tick."
+        seat.heard = tick;
+        if let Some(holding) = &outcome.holding {
+            // What it was giving back is free.
+            remove(&mut self.held, &sets.revoking);
+            add(&mut self.held, &holding.assigned);
+            seat.epoch = holding.epoch;
+            seat.revoked_at = holding.revoked_at;
+            sets.assigned = holding.assigned;
+            sets.revoking = holding.revoking;
+        }
     }
 }
 
@@ -171,6 +186,17 @@ fn check_form(request: &Heartbeat) -> Result<(), Refusal> {
         return Err(Refusal::InvalidRequest);
     }
     Ok(())
+}
+
+/// Whether each slot of the list is in A or P.
+#[inline]
+fn holds(sets: &Sets, list: &[u16]) -> bool {
+    match sets.revoking.is_empty() {
+        true => list.iter().all(|&slot| sets.assigned.contains(slot)),
+        false => list
+            .iter()
+            .all(|&slot| sets.assigned.contains(slot) || sets.revoking.contains(slot)),
+    }
 }
 
 /// All pairs are looked at and none is branched on, so that several go in one instruction.

@@ -61,9 +61,14 @@ impl Slots {
         self.with(other, |word, other| word & !other)
     }
 
+    /// With every slot of the target that is not in `held`, or is being freed.
     #[inline]
-    pub fn or(&self, other: &Slots) -> Slots {
-        self.with(other, |word, other| word | other)
+    pub fn with_free(&self, target: &Slots, held: &Words, freed: &Slots) -> Slots {
+        let mut words = self.words;
+        for (index, word) in words.iter_mut().enumerate() {
+            *word |= target.words[index] & (!held[index] | freed.words[index]);
+        }
+        Slots::of(words)
     }
 
     #[inline]
@@ -72,17 +77,6 @@ impl Slots {
         for (word, &other) in words.iter_mut().zip(&other.words) {
             *word = both(*word, other);
         }
-        Slots::of(words)
-    }
-
-    /// Those that pass.
-    #[inline]
-    pub fn filter(&self, passes: impl Fn(u16) -> bool) -> Slots {
-        let mut words = [0; TOPICS];
-        self.for_each(|slot| {
-            let bit = u64::from(passes(slot)) << (usize::from(slot) % PARTITIONS);
-            words[usize::from(slot) / PARTITIONS] |= bit;
-        });
         Slots::of(words)
     }
 
@@ -96,6 +90,22 @@ impl Slots {
                 left &= left - 1;
             }
         }
+    }
+}
+
+/// Takes the slots from the words.
+#[inline]
+pub(crate) fn remove(from: &mut Words, slots: &Slots) {
+    for (word, gone) in from.iter_mut().zip(&slots.words) {
+        *word &= !gone;
+    }
+}
+
+/// Adds the slots to the words.
+#[inline]
+pub(crate) fn add(to: &mut Words, slots: &Slots) {
+    for (word, new) in to.iter_mut().zip(&slots.words) {
+        *word |= new;
     }
 }
 
@@ -135,9 +145,20 @@ mod tests {
         let (one, other) = (set(&[1, 64, 200]), set(&[64, 200, 1_000]));
         assert_eq!(list(one.and(&other)), [64, 200]);
         assert_eq!(list(one.minus(&other)), [1]);
-        assert_eq!(list(one.or(&other)), [1, 64, 200, 1_000]);
-        assert_eq!(list(one.filter(|slot| slot > 63)), [64, 200]);
+        let mut words = *one.words();
+        add(&mut words, &other);
+        assert_eq!(list(Slots::of(words)), [1, 64, 200, 1_000]);
+        remove(&mut words, &one);
+        assert_eq!(list(Slots::of(words)), [1_000]);
         assert!(one.and(&other).is_subset(&one) && Slots::EMPTY.is_subset(&one));
         assert!(!one.is_subset(&other));
+    }
+
+    /// 5 is held by another, 6 is being freed, 7 is nobody's and 8 is nobody's target.
+    #[test]
+    fn what_is_free_of_a_target_is_added() {
+        let (target, held, freed) = (set(&[1, 5, 6, 7]), set(&[1, 5, 6]), set(&[6]));
+        let with_free = set(&[1]).with_free(&target, held.words(), &freed);
+        assert_eq!(list(with_free), [1, 6, 7]);
     }
 }

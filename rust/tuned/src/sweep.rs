@@ -17,7 +17,9 @@ impl Group {
         self.check_clock(tick)?;
         let mut overdue = 0_u32;
         for place in members(self.used) {
-            overdue |= u32::from(self.is_overdue(place, tick)) << place;
+            if self.is_overdue(place, tick) {
+                overdue |= 1 << place;
+            }
         }
         let written = match overdue {
             0 => 0,

@@ -7,10 +7,10 @@ use Rattle.cases.proofs.run_table.Statement.{statement}
 use Rattle.cases.proofs.run_table.Tie as tie
 
 abbrev Inv-loop : tie.InvT-loop
-Inv-loop table g₀ row₀ i₀ g row i = i ≤ length table
+Inv-loop table head₀ members₀ topic-ids₀ topic-counts₀ target₀ holder₀ waiting₀ row₀ i₀ head members topic-ids topic-counts target holder waiting row i = i ≤ length table
 
 abbrev μ-loop : tie.MeasureT-loop
-μ-loop table g₀ row₀ i₀ g row i = length table - i
+μ-loop table head₀ members₀ topic-ids₀ topic-counts₀ target₀ holder₀ waiting₀ row₀ i₀ head members topic-ids topic-counts target holder waiting row i = length table - i
 
 fresh-requires : tie.Need-fresh-requires Inv-loop μ-loop
 fresh-requires c κs = tt

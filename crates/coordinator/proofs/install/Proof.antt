@@ -5,7 +5,7 @@ use borrow.Author.Needs.{needs}
 use mir.Facts.{toZ-ofZ}
 use Rattle.rules.specs.Event.{install}
 use Rattle.rules.specs.Step.{step}
-use Rattle.group.specs.View.{view}
+use Rattle.group.specs.Parts.{viewTargetParts}
 use Rattle.coordinator.proofs.install.Statement.{statement}
 use Rattle.coordinator.proofs.install.Tie as tie
 
@@ -16,14 +16,11 @@ same-length : tie.Need-same-length
 same-length c = search needs
 
 returns : tie.Need-returns
-returns c =
-    let o = c .before .before .install in (
-      o .ensures .0,
-      λ l.
-          let s = c .before .before .before .before .before .before in
-          let a = s .args in
-          o .ensures .1 l ∙ ap (λ (z : ℤ). step (view (a .g)) (install z (a .entries .now)) (a .records .now) l) (toZ-ofZ (s .fits .epoch)),
-    )
+returns c = λ l.
+    let s = c .before .before .before .before .before .before .before .before in
+    let a = s .args in
+    let o = c .before .before .install .ensures l in
+    (o .0, λ rest. o .1 rest ∙ ap (λ (z : ℤ). step (viewTargetParts rest (record { head = a .head .now; members = a .members .now; counts = a .topic-counts .now; target = a .target .now })) (install z (a .entries .now)) (a .records .now) l) (toZ-ofZ (s .fits .epoch)))
 
 pub install-spec : {M : Type 1} → statement M
 install-spec = tie.close (tie.spec install-requires same-length returns)

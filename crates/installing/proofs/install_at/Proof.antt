@@ -1,86 +1,84 @@
 -- The records are those of the rules' effect, since they tell of no holder; without room for them nothing changes, and with room the effect is carried out.
--- Assumes nothing.
-use mathlib.Core.Path.{_≡_, refl, sym, _∙_, subst}
+use mathlib.Core.Path.{_≡_, refl, sym, ap, _∙_, subst}
 use mathlib.Core.List.{List}
 use Prim.Native.Nat.{ℕ}
-use lib.ListN.{length}
+use native.Mathlib.Omega.{arith}
+use lib.ListN.{getD, set}
 use borrow.Author.Needs.{needs}
-use Rattle.rules.specs.Constants.{slotCount}
 use Rattle.rules.specs.Effects.{installRecords, installEffect}
 use Rattle.rules.specs.declared.Answer.the-variants.{Done}
-use Rattle.group.specs.View.{view}
-use Rattle.installing.specs.Targets.{unheld}
+use Rattle.group.specs.Parts.{TargetParts, Holding, viewTargetParts}
+use Rattle.events.specs.declared.Outcome.{Outcome}
 use Rattle.events.specs.Outcomes.{took, carried}
-use Rattle.events.proofs.Carrying.{keeps-refused}
+use Rattle.events.proofs.Carrying.{same-refused}
 use Rattle.events.proofs.Storing.{too-long, stored}
+use Rattle.installing.specs.Targets.{unheld}
 use Rattle.installing.proofs.Installs.{install-records, install-group}
 use Rattle.installing.proofs.install_at.Statement.{statement}
 use Rattle.installing.proofs.install_at.Tie as tie
 
-records-are : (c : tie.Start) → let a = c .args in installRecords (unheld (a .g .tables .target)) (unheld (a .target)) (a .g .epoch) ≡ installEffect (view (a .g)) (a .target) .records
-records-are c =
-    let a = c .args in
-    let t = a .g .tables in
-    let n : length (t .target) ≡ slotCount = search needs in
-    let k : length (t .holder) ≡ slotCount = search needs in
-    let l : length (t .waiting) ≡ slotCount = search needs in
-    let m : length (a .target) ≡ slotCount = search needs in
-    install-records (a .g) (a .target) (k ∙ sym n) (l ∙ sym n) (m ∙ sym n)
+-- the parts at entry
+abbrev had : tie.Start → TargetParts
+had s = let a = s .args in record { head = a .head .now; members = a .members .now; counts = a .topic-counts .now; target = a .target .now }
 
-store-install-requires : tie.Need-store-install-requires
-store-install-requires c κs = tt
+-- the records are those of the effect
+recorded : (c : tie.After-sized) (h : Holding) → let s = c .before .before .before .before .before in
+    installRecords (unheld (s .args .target .now)) (unheld (s .args .entries .now)) (getD (s .args .head .now) 0 0) ≡ installEffect (viewTargetParts h (had s)) (s .args .entries .now) .records
+recorded c h = let s = c .before .before .before .before .before in install-records h (had s) (s .args .entries .now) (c .sized .ensures .1) (s .pre)
 
-refused-requires : tie.Need-refused-requires
-refused-requires c κs = tt
-
-same-length : tie.Need-same-length
-same-length c = search needs
+element-copy-out-epoch : tie.Need-element-copy-out-epoch
+element-copy-out-epoch c = omega (arith, c .sized .ensures .0)
 
 returns : tie.Need-returns
-returns c = (
-  keeps-refused (c .refused .ensures),
-  λ l.
-      let x = c .before .before .before .before .before .before .before .before .before in
-      let a = x .args in
-      let f = installEffect (view (a .g)) (a .target) in
-      let k = c .before .before .before .before .store-install .ensures .refused (c .before .if1 .taken) in
-      subst (λ (b : List ℕ). took (c .refused .result) b l ≡ carried (view (a .g)) f (a .records .now) l) (sym (k .1)) (too-long f (records-are x) (a .records .now) l (k .0) (c .refused .ensures)),
-)
+returns c =
+    let s = c .before .before .before .before .before .before .before .before .before .before .before .before .before in
+    let a = s .args in
+    let e = c .refused .ensures in
+    let k = c .before .before .before .before .store-install .ensures (s .pre) .refused (c .before .if1 .taken) in
+    λ l. (
+      same-refused e (had s),
+      λ h.
+          let g = viewTargetParts h (had s) in
+          let f = installEffect g (a .entries .now) in
+          subst (λ (b : List ℕ). took (c .refused .result) g b l ≡ carried g f (a .records .now) l) (sym (k .1)) (too-long f (recorded (c .before .before .before .before .before .before .before .before) h) (a .records .now) l g (k .0) e),
+    )
 
-retarget-requires : tie.Need-retarget-requires
-retarget-requires c κs = tt
+replace-requires : tie.Need-replace-requires
+replace-requires c κs = c .before .before .before .before .before .before .before .before .before .before .before .before .before .pre
 
-with-target-requires : tie.Need-with-target-requires
-with-target-requires c κs = tt
-
-same-length-2 : tie.Need-same-length-2
-same-length-2 c = search needs
+element-write-head : tie.Need-element-write-head
+element-write-head c = omega (arith, c .before .before .before .before .before .before .before .before .before .sized .ensures .0)
 
 returns-2 : tie.Need-returns-2
 unfolding installEffect
-returns-2 c = (
-  tt,
-  λ l.
-      let x = c .before .before .before .before .before .before .before .before .before .before in
-      let a = x .args in
-      let put = c .before .before .before .before .before .store-install in
-      let k = put .ensures .wrote (c .before .before .if1 .left) in
-      stored (installEffect (view (a .g)) (a .target)) (records-are x) (a .records .now) l (view (a .g)) (record { group = c .with-target .result; answer = Done; written = put .result .written }) refl
-      (k .0)
-      refl
-      (install-group (a .g) (a .target) (c .with-target .result) (c .before .retarget .ensures) (c .with-target .ensures))
-      (k .1),
-)
+returns-2 c =
+    let s = c .before .before .before .before .before .before .before .before .before .before .before .before .before .before in
+    let a = s .args in
+    let put = c .before .before .before .before .before .store-install in
+    let k = put .ensures (s .pre) .wrote (c .before .before .if1 .left) in
+    let r : Outcome = record { answer = Done; written = put .result .written } in
+    λ l. (
+      tt,
+      λ h.
+          let g = viewTargetParts h (had s) in
+          let head = set (a .head .now) 1 (getD (a .head .now) 0 0) in
+          let after : TargetParts = record { head = head; members = a .members .now; counts = a .topic-counts .now; target = c .replace .last .0 } in
+          let same = ap (λ (t : List ℕ). viewTargetParts h (record { head = head; members = a .members .now; counts = a .topic-counts .now; target = t })) (c .replace .ensures) in
+          stored (installEffect g (a .entries .now)) (recorded (c .before .before .before .before .before .before .before .before .before) h) (a .records .now) l g r (viewTargetParts h after) refl (k .0) refl
+          (same ∙ install-group h (had s) (a .entries .now) (c .before .before .before .before .before .before .before .before .before .sized .ensures .1) (s .pre) (c .before .before .before .before .before .before .before .before .before .sized .ensures .0)) (k .1),
+    )
 
 pub install-at-spec : {M : Type 1} → statement M
 install-at-spec =
     tie.close
     (tie.spec
-    store-install-requires
-    refused-requires
-    same-length
+    (λ c κs. tt)
+    element-copy-out-epoch
+    (λ c κs. tt)
+    (λ c κs. tt)
+    (λ c. search needs)
     returns
-    retarget-requires
-    with-target-requires
-    same-length-2
+    replace-requires
+    element-write-head
+    (λ c. search needs)
     returns-2)

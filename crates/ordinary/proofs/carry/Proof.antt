@@ -1,71 +1,91 @@
 -- The size and the count decide whether there is room; otherwise each part of the outcome is that of the plan's effect (`Carrying`). Assumes nothing.
 use native.Mathlib.Omega.{arith}
-use mathlib.Core.Path.{_≡_, ap, _∙_}
+use mathlib.Core.Path.{_≡_, refl, ap, _∙_}
+use mathlib.Core.Bool.{false}
+use mathlib.Core.List.{List}
+use mathlib.Core.Option.{Option, some}
 use lib.ListN.{length, set}
 use borrow.Author.Needs.{needs}
 use Rattle.rules.specs.Constants.{heartbeatInterval}
+use Rattle.rules.specs.Group.{Topic}
 use Rattle.rules.specs.Records.{allBytes}
-use Rattle.rules.specs.Effects.{Effect, changed}
+use Rattle.rules.specs.Refusals.{zeroId}
+use Rattle.rules.specs.Effects.{Effect}
 use Rattle.rules.specs.declared.Answer.the-variants.{Assigned}
-use Rattle.tables.specs.View.{viewTables}
+use Rattle.group.specs.Columns.{viewMembers}
+use Rattle.group.specs.Parts.{Parts, parts, viewParts}
+use Rattle.group.specs.View.{seated, viewWith}
 use Rattle.group.specs.declared.Seat.{Seat}
-use Rattle.group.specs.View.{view, viewSeat}
 use Rattle.events.specs.Outcomes.{took}
+use Rattle.events.proofs.Carrying.{same-refused, no-room-records, no-room-list, carried-out}
+use Rattle.events.proofs.Lent.{parts-changed}
 use Rattle.ordinary.specs.Plans.{planned}
-use Rattle.events.proofs.Carrying.{keeps-refused, no-room-records, no-room-list, carried-out}
 use Rattle.ordinary.proofs.carry.Statement.{statement}
 use Rattle.ordinary.proofs.carry.Tie as tie
 
-abbrev effect : tie.Start → Effect
-effect c = let a = c .args in planned (view (a .g)) (a .p) (a .tick) (a .k)
+abbrev had : tie.Start → Parts
+had c = let a = c .args in parts (a .head .now) (a .members .now) (a .target .now) (a .holder .now) (a .waiting .now)
 
-size-is : (c : tie.After-ordinary-records-len) → c .ordinary-records-len .result ≡ length (allBytes (effect (c .before .before .before .before .before .before .before) .records))
-unfolding planned
-size-is c = c .ordinary-records-len .ensures .0
+abbrev effect : List (Option Topic) → tie.Start → Effect
+effect ts c = let a = c .args in planned (viewParts ts (had c)) (a .p) (a .tick) (a .k)
 
-count-is : (c : tie.After-count) → c .count .result ≡ length (effect (c .before .before .before .before .before .before .before .before .before) .told)
+size-is : (ts : List (Option Topic)) (c : tie.After-ordinary-records-len) → c .ordinary-records-len .result ≡ length (allBytes (effect ts (c .before .before .before .before .before .before .before .before .before .before .before .before .before) .records))
 unfolding planned
-count-is c = c .count .ensures
+size-is ts c = c .ordinary-records-len .ensures .0
+
+count-is : (ts : List (Option Topic)) (c : tie.After-count) → c .count .result ≡ length (effect ts (c .before .before .before .before .before .before .before .before .before .before .before .before .before .before .before) .told)
+unfolding planned
+count-is ts c = c .count .ensures
 
 returns : tie.Need-returns
-unfolding planned
-returns c =
-    let x = c .before .before .before .before .before .before .before .before .before in
-    let a = x .args in
-    (keeps-refused (c .refused .ensures), no-room-records (effect x) (a .records .now) (a .list .now) (omega (arith, size-is (c .before .before), c .before .if1 .taken)) (c .refused .ensures))
+returns c = λ real.
+    let x = c .before .before .before .before .before .before .before .before .before .before .before .before .before .before .before in
+    let a = x .args in (
+      same-refused (c .refused .ensures) (had x),
+      λ ts. no-room-records (effect ts x) (a .records .now) (a .list .now) (viewParts ts (had x)) (omega (arith, size-is ts (c .before .before), c .before .if1 .taken)) (c .refused .ensures),
+    )
 
 returns-2 : tie.Need-returns-2
-unfolding planned
-returns-2 c =
-    let x = c .before .before .before .before .before .before .before .before .before .before .before in
+returns-2 c = λ real.
+    let x = c .before .before .before .before .before .before .before .before .before .before .before .before .before .before .before .before .before in
+    let a = x .args in (
+      same-refused (c .refused2 .ensures) (had x),
+      λ ts. no-room-list (effect ts x) (a .records .now) (a .list .now) (viewParts ts (had x)) (omega (arith, size-is ts (c .before .before .before .before), c .before .before .before .if1 .left)) (omega (arith, count-is ts (c .before .before), c .before .if2 .taken)) (c .refused2 .ensures),
+    )
+
+-- the parts after it stand for the group of the plan's effect
+group-is : (c : tie.After-follow) (ts : List (Option Topic)) → let x = c .before .before .before .before .before .before .before .before .before .before .before .before .before .before .before .before .before .before .before .before .before .before .before .before .before .before .before .before .before .before .before in let a = x .args in let t = c .follow .last in zeroId (a .k .member .id) ≡ false
+    → viewParts ts (parts (set (set (a .head .now) 0 (a .k .epoch)) 2 (a .tick)) (c .before .before .before .before .put .last .0) (t .0) (t .1 .0) (t .1 .1 .0)) ≡ effect ts x .group
+unfolding planned viewParts viewWith
+group-is c ts real =
+    let x = c .before .before .before .before .before .before .before .before .before .before .before .before .before .before .before .before .before .before .before .before .before .before .before .before .before .before .before .before .before .before .before in
     let a = x .args in
-    let size = c .before .before .before .before in
-    let count = c .before .before in
-    (keeps-refused (c .refused2 .ensures), no-room-list (effect x) (a .records .now) (a .list .now) (omega (arith, size-is size, c .before .before .before .if1 .left)) (omega (arith, count-is count, c .before .if2 .taken)) (c .refused2 .ensures))
+    let t = c .follow .last in
+    let seat = c .before .before .before .before .before .seat .ensures in
+    parts-changed ts (had x) (parts (set (set (a .head .now) 0 (a .k .epoch)) 2 (a .tick)) (c .before .before .before .before .put .last .0) (t .0) (t .1 .0) (t .1 .1 .0)) (a .k .epoch) (a .tick) (c .before .before .before .before .before .before .before .before .before .before .before .before .before .before .before .before .before .before .before .before .before .before .before .whole .ensures .head-long) refl
+    (c .before .before .before .before .put .ensures (ap (λ (s : Seat). zeroId (s .id)) seat ∙ real) ∙ ap (λ (s : Seat). set (viewMembers (a .members .now)) (a .p .0) (some (seated s))) seat) (c .follow .ensures)
 
 returns-3 : tie.Need-returns-3
-unfolding planned viewSeat
-returns-3 c =
-    let x = c .before .before .before .before .before .before .before .before .before .before .before .before .before .before .before .before .before .before .before .before .before in
+unfolding planned
+returns-3 c = λ real.
+    let x = c .before .before .before .before .before .before .before .before .before .before .before .before .before .before .before .before .before .before .before .before .before .before .before .before .before .before .before .before .before .before .before in
     let a = x .args in
-    let m = a .k .member in
-    let size = c .before .before .before .before .before .before .before .before .before .before .before .before .before .before in
-    let count = c .before .before .before .before .before .before .before .before .before .before .before .before in
-    let out = c .with-seat .result in
-    let put = c .before .before .before .before .before .before .before .before .before .put-ordinary-records in
-    let told = c .before .before .before .before .before .list-slots in
-    let done =
-    (λ i. took (record { group = out; answer = Assigned (record { epoch = m .epoch; interval = heartbeatInterval; count = count-is count i }); written = put .result }) (put .last .0) (told .last .0))
-    ∙ carried-out (effect x) (a .records .now) (a .list .now) (view (a .g)) out
-    (omega (arith, size-is size, c .before .before .before .before .before .before .before .before .before .before .before .before .before .if1 .left)) (omega (arith, count-is count, c .before .before .before .before .before .before .before .before .before .before .before .if2 .left))
-    (c .with-seat .ensures ∙ ap (λ (s : Seat). changed (view (a .g)) (a .k .epoch) (a .tick) (set (view (a .g) .members) (a .p .0) (viewSeat s)) (viewTables (a .k .tables))) (c .before .before .seat .ensures))
-    (put .ensures) (told .ensures .bytes) in
-    (tt, done)
+    let t = c .follow .last in
+    let put = c .before .before .before .before .before .before .before .before .before .before .before .before .before .put-ordinary-records in
+    let told = c .before .before .before .before .before .before .before .before .before .list-slots in
+    let after = parts (set (set (a .head .now) 0 (a .k .epoch)) 2 (a .tick)) (c .before .before .before .before .put .last .0) (t .0) (t .1 .0) (t .1 .1 .0) in (
+      tt,
+      λ ts.
+          (λ i. took (record { answer = Assigned (record { epoch = a .k .member .epoch; interval = heartbeatInterval; count = count-is ts (c .before .before .before .before .before .before .before .before .before .before .before .before .before .before .before .before) i }); written = put .result }) (viewParts ts after) (put .last .0) (told .last .0))
+          ∙ carried-out (effect ts x) (a .records .now) (a .list .now) (viewParts ts (had x)) (viewParts ts after)
+          (omega (arith, size-is ts (c .before .before .before .before .before .before .before .before .before .before .before .before .before .before .before .before .before .before), c .before .before .before .before .before .before .before .before .before .before .before .before .before .before .before .before .before .if1 .left)) (omega (arith, count-is ts (c .before .before .before .before .before .before .before .before .before .before .before .before .before .before .before .before), c .before .before .before .before .before .before .before .before .before .before .before .before .before .before .before .if2 .left)) (group-is c ts real) (put .ensures) (told .ensures .bytes),
+    )
 
 pub carry-spec : {M : Type 1} → statement M
 carry-spec =
     tie.close
     (tie.spec
+    (λ c κs. tt)
     (λ c κs. tt)
     (λ c κs. tt)
     returns
@@ -77,6 +97,9 @@ carry-spec =
     (λ c κs. search needs)
     (λ c κs. tt)
     (λ c κs. tt)
+    (λ c κs. tt)
+    (λ c. omega arith)
+    (λ c. omega arith)
     (λ c. search needs)
     (λ c. search needs)
     returns-3)

@@ -5,9 +5,8 @@ use native.Mathlib.Omega.{arith}
 use mathlib.Core.Path.{_≡_, ap}
 use lib.ListN.{length}
 use Rattle.rules.specs.Constants.{maxMembers}
-use Rattle.sweeping.specs.Marks.{marked}
 use Rattle.events.proofs.Places.{pickedFrom, picked-in, picked-out, picked-end}
-use Rattle.sweeping.proofs.Marking.{mark}
+use Rattle.sweeping.specs.Marks.{mark, marked}
 use Rattle.sweeping.proofs.count_marks.Statement.{statement}
 use Rattle.sweeping.proofs.count_marks.Tie as tie
 
@@ -24,8 +23,8 @@ loop-holds c = (omega arith, omega arith, zero-add _)
 add-i : tie.Need-add-i Inv-loop μ-loop
 add-i c = omega arith
 
-array-read-if1 : tie.Need-array-read-if1 Inv-loop μ-loop
-array-read-if1 c = omega arith
+element-copy-out-if1 : tie.Need-element-copy-out-if1 Inv-loop μ-loop
+element-copy-out-if1 c = omega arith
 
 add-n : tie.Need-add-n Inv-loop μ-loop
 add-n c = omega arith
@@ -35,19 +34,22 @@ loop-less c = omega arith
 
 loop-again : tie.Need-loop-again Inv-loop μ-loop
 loop-again c =
-    let l = c .before .before .loop in
-    (omega arith, omega arith, omega (arith, ap length (picked-in (mark (c .before .before .before .args .t1)) (l .i) (omega arith) (c .if1 .taken)), l .inv .2))
+    let l = c .before .before .before .loop in
+    (omega arith, omega arith, omega (arith, ap length (picked-in (mark (c .before .before .before .before .before .args .gone .now)) (l .i) (omega arith) (c .if1 .taken)), l .inv .2))
 
 loop-less-2 : tie.Need-loop-less-2 Inv-loop μ-loop
 loop-less-2 c = omega arith
 
 loop-again-2 : tie.Need-loop-again-2 Inv-loop μ-loop
 loop-again-2 c =
-    let l = c .before .before .loop in
-    (omega arith, omega arith, omega (arith, ap length (picked-out (mark (c .before .before .before .args .t1)) (l .i) (omega arith) (c .if1 .left)), l .inv .2))
+    let l = c .before .before .before .loop in
+    (omega arith, omega arith, omega (arith, ap length (picked-out (mark (c .before .before .before .before .before .args .gone .now)) (l .i) (omega arith) (c .if1 .left)), l .inv .2))
+
+cast-result : tie.Need-cast-result Inv-loop μ-loop
+cast-result c = omega arith
 
 returns : tie.Need-returns Inv-loop μ-loop
-returns c = let l = c .before .loop in omega (arith, ap length (picked-end (mark (c .before .before .args .t1)) (l .i) (omega arith)), l .inv .2)
+returns c = let l = c .before .loop in omega (arith, ap length (picked-end (mark (c .before .before .before .args .gone .now)) (l .i) (omega arith)), l .inv .2)
 
 pub count-marks-spec : {M : Type 1} → statement M
 count-marks-spec =
@@ -57,10 +59,11 @@ count-marks-spec =
     μ-loop
     loop-holds
     add-i
-    array-read-if1
+    element-copy-out-if1
     add-n
     loop-less
     loop-again
     loop-less-2
     loop-again-2
+    cast-result
     returns)

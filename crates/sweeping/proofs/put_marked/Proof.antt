@@ -6,9 +6,8 @@ use mathlib.Core.Path.{_∙_}
 use Rattle.rules.specs.Constants.{maxMembers}
 use Rattle.rules.specs.Records.{allBytes}
 use Rattle.numbers.proofs.Writing.{Writing, begin, cut, to-go₁, same-len, in-range, room, put-at, part-over, ended}
-use Rattle.sweeping.specs.Marks.{marked, goneAt, markedRecords}
 use Rattle.events.proofs.Places.{pickedFrom, picked-in, picked-out, picked-end, bytesAt, bytes-next, bytes-end}
-use Rattle.sweeping.proofs.Marking.{mark}
+use Rattle.sweeping.specs.Marks.{mark, marked, goneAt, markedRecords}
 use Rattle.sweeping.proofs.put_marked.Statement.{statement}
 use Rattle.sweeping.proofs.put_marked.Tie as tie
 
@@ -21,25 +20,26 @@ abbrev μ-loop : tie.MeasureT-loop
 
 abbrev Coming : (c : tie.Then1 Inv-loop μ-loop) → Type 0
 Coming c =
-    let l = c .before .before .loop in
-    let a = c .before .before .before .before .args in
-    Writing (allBytes (markedRecords (a .t2) (a .t3))) (a .buf .now) (l .buf) (l .at) (allBytes (goneAt (a .t3) (l .i)) ∷ bytesAt (goneAt (a .t3)) (pickedFrom (mark (a .t2)) (l .i + 1)) ∷ [])
+    let l = c .before .before .before .loop in
+    let a = c .before .before .before .before .before .before .before .args in
+    Writing (allBytes (markedRecords (a .gone .now) (a .targets .now))) (a .buf .now) (l .buf) (l .at)
+    (allBytes (goneAt (a .targets .now) (l .i)) ∷ bytesAt (goneAt (a .targets .now)) (pickedFrom (mark (a .gone .now)) (l .i + 1)) ∷ [])
 
 coming : (c : tie.Then1 Inv-loop μ-loop) → Coming c
 coming c =
-    let l = c .before .before .loop in
-    let a = c .before .before .before .before .args in
-    cut (bytes-next (goneAt (a .t3)) (picked-in (mark (a .t2)) (l .i) (omega arith) (c .if1 .taken))) (l .inv .1)
+    let l = c .before .before .before .loop in
+    let a = c .before .before .before .before .before .before .before .args in
+    cut (bytes-next (goneAt (a .targets .now)) (picked-in (mark (a .gone .now)) (l .i) (omega arith) (c .if1 .taken))) (l .inv .1)
 
 loop-holds : tie.Need-loop-holds Inv-loop μ-loop
 unfolding markedRecords marked
-loop-holds c = (omega arith, begin _ _ _ (append-nil _) (c .before .pre))
+loop-holds c = (omega arith, begin _ _ _ (append-nil _) (c .before .before .before .pre))
 
 add-i : tie.Need-add-i Inv-loop μ-loop
 add-i c = omega arith
 
-array-read-if1 : tie.Need-array-read-if1 Inv-loop μ-loop
-array-read-if1 c = omega arith
+element-copy-out-if1 : tie.Need-element-copy-out-if1 Inv-loop μ-loop
+element-copy-out-if1 c = omega arith
 
 sub-put-gone-records : tie.Need-sub-put-gone-records Inv-loop μ-loop
 sub-put-gone-records c = omega (arith, in-range (coming c))
@@ -50,32 +50,32 @@ part-put-gone-records-start c = omega (arith, in-range (coming c))
 part-put-gone-records-end : tie.Need-part-put-gone-records-end Inv-loop μ-loop
 part-put-gone-records-end c = omega arith
 
-cast-t18 : tie.Need-cast-t18 Inv-loop μ-loop
-cast-t18 c = omega arith
+cast-t20 : tie.Need-cast-t20 Inv-loop μ-loop
+cast-t20 c = omega arith
 
-array-read-put-gone-records : tie.Need-array-read-put-gone-records Inv-loop μ-loop
-array-read-put-gone-records c = omega arith
+element-copy-out-put-gone-records : tie.Need-element-copy-out-put-gone-records Inv-loop μ-loop
+element-copy-out-put-gone-records c = omega arith
 
 put-gone-records-requires : tie.Need-put-gone-records-requires Inv-loop μ-loop
-put-gone-records-requires c κs = room (coming (c .before))
+put-gone-records-requires c κs = room (coming (c .before .before))
 
 add-at : tie.Need-add-at Inv-loop μ-loop
-add-at c = let s = coming (c .before .before .before .before) in omega (arith, to-go₁ s, s .fits, c .before .before .put-gone-records .ensures .count)
+add-at c = let s = coming (c .before .before .before .before .before) in omega (arith, to-go₁ s, s .fits, c .before .before .put-gone-records .ensures .count)
 
 loop-less : tie.Need-loop-less Inv-loop μ-loop
 loop-less c = omega arith
 
 loop-again : tie.Need-loop-again Inv-loop μ-loop
-loop-again c = (omega arith, put-at (coming (c .before .before .before .before)) (part-over _ _ _ _ _ (c .before .before .put-gone-records .ensures)))
+loop-again c = (omega arith, put-at (coming (c .before .before .before .before .before)) (part-over _ _ _ _ _ (c .before .before .put-gone-records .ensures)))
 
 loop-less-2 : tie.Need-loop-less-2 Inv-loop μ-loop
 loop-less-2 c = omega arith
 
 loop-again-2 : tie.Need-loop-again-2 Inv-loop μ-loop
 loop-again-2 c =
-    let l = c .before .before .loop in
-    let a = c .before .before .before .before .args in
-    (omega arith, rw (picked-out (mark (a .t2)) (l .i) (omega arith) (c .if1 .left)) at (l .inv .1))
+    let l = c .before .before .before .loop in
+    let a = c .before .before .before .before .before .before .before .args in
+    (omega arith, rw (picked-out (mark (a .gone .now)) (l .i) (omega arith) (c .if1 .left)) at (l .inv .1))
 
 same-length : tie.Need-same-length Inv-loop μ-loop
 same-length c = same-len (c .before .loop .inv .1)
@@ -83,8 +83,8 @@ same-length c = same-len (c .before .loop .inv .1)
 returns : tie.Need-returns Inv-loop μ-loop
 returns c =
     let l = c .before .loop in
-    let a = c .before .before .before .args in
-    ended (l .inv .1) (append-nil _ ∙ bytes-end (goneAt (a .t3)) (picked-end (mark (a .t2)) (l .i) (omega arith)))
+    let a = c .before .before .before .before .before .args in
+    ended (l .inv .1) (append-nil _ ∙ bytes-end (goneAt (a .targets .now)) (picked-end (mark (a .gone .now)) (l .i) (omega arith)))
 
 pub put-marked-spec : {M : Type 1} → statement M
 put-marked-spec =
@@ -94,12 +94,12 @@ put-marked-spec =
     μ-loop
     loop-holds
     add-i
-    array-read-if1
+    element-copy-out-if1
     sub-put-gone-records
     part-put-gone-records-start
     part-put-gone-records-end
-    cast-t18
-    array-read-put-gone-records
+    cast-t20
+    element-copy-out-put-gone-records
     put-gone-records-requires
     add-at
     loop-less

@@ -7,19 +7,19 @@ use lib.ListN.{drop}
 use Rattle.rules.specs.Effects.{onlyIf}
 use Rattle.rules.specs.Records.{groupEpoch, allBytes}
 use Rattle.numbers.proofs.Writing.{Writing, Stage, begin, first, next, to-go, same-len, in-range, room, room₀, ended}
-use Rattle.sweeping.specs.Marks.{markedRecords}
 use Rattle.events.proofs.Storing.{two-parts}
+use Rattle.sweeping.specs.Marks.{markedRecords}
 use Rattle.sweeping.proofs.put_sweep.Statement.{statement}
 use Rattle.sweeping.proofs.put_sweep.Tie as tie
 
 abbrev parts : tie.Start → List (List ℕ)
-parts c = let a = c .args in allBytes (markedRecords (a .gone) (a .targets)) ∷ allBytes (onlyIf (a .raises) (groupEpoch (a .epoch))) ∷ []
+parts c = let a = c .args in allBytes (markedRecords (a .gone .now) (a .targets .now)) ∷ allBytes (onlyIf (a .raises) (groupEpoch (a .epoch))) ∷ []
 
 abbrev whole : tie.Start → List ℕ
-whole c = let a = c .args in allBytes (markedRecords (a .gone) (a .targets) ++ onlyIf (a .raises) (groupEpoch (a .epoch)))
+whole c = let a = c .args in allBytes (markedRecords (a .gone .now) (a .targets .now) ++ onlyIf (a .raises) (groupEpoch (a .epoch)))
 
 s₀ : (c : tie.Start) → Writing (whole c) (c .args .buf .now) (c .args .buf .now) 0 (parts c)
-s₀ c = let a = c .args in begin _ _ _ (two-parts (markedRecords (a .gone) (a .targets)) (onlyIf (a .raises) (groupEpoch (a .epoch)))) (c .pre)
+s₀ c = let a = c .args in begin _ _ _ (two-parts (markedRecords (a .gone .now) (a .targets .now)) (onlyIf (a .raises) (groupEpoch (a .epoch)))) (c .pre)
 
 -- the buffer after the first n parts
 abbrev After : ℕ → tie.Start → Type 0

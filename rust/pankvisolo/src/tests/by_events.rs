@@ -2,6 +2,7 @@
 //! of its own in every field, then every field against what they must have left.
 
 use crate::ffi;
+use crate::ids;
 use crate::{Answer, Group, Heartbeat, Id, Reply};
 
 const TOPICS: u8 = 16;
@@ -134,27 +135,28 @@ fn every_field_of_a_group_is_where_it_is_declared() {
     let group = events().value;
     assert_eq!((group.epoch, group.target_epoch), (33, 32));
     assert_eq!(group.tick, tick(4, TOPICS - 1));
-    check_topics(&group.topics);
-    check_seats(&group.seats);
-    check_tables(&group.tables);
+    check_topics(&group);
+    check_members(&group);
+    check_slots(&group);
 }
 
-fn check_topics(topics: &[ffi::Topic]) {
-    for (number, topic) in (0..).zip(topics) {
+fn check_topics(group: &ffi::Group) {
+    for number in 0..TOPICS {
+        let at = usize::from(number);
         let raised = if number == 0 { 2 } else { 0 };
-        assert_eq!(topic.id, topic_id(number));
-        assert_eq!(topic.count, partitions(number) + raised);
+        assert_eq!(group.topic_ids[at], topic_id(number));
+        assert_eq!(group.topic_counts[at], partitions(number) + raised);
     }
 }
 
-fn check_seats(seats: &[ffi::Seat]) {
-    let (taken, free) = seats.split_at(usize::from(MEMBERS));
-    assert!(free.iter().all(|seat| !seat.used));
-    for (place, seat) in (0..).zip(taken) {
-        assert_eq!(seat.id, member_id(place));
-        assert_eq!(seat.subscription, subscription(place));
-        assert_eq!(seat.timeout, timeout(place));
-        assert!(seat.used);
+fn check_members(group: &ffi::Group) {
+    let words = |at: usize| group.member_ids.map(|column| column[at]);
+    assert_eq!(words(MEMBERS.into()), [0; 4], "the free place");
+    for place in 0..MEMBERS {
+        let at = usize::from(place);
+        assert_eq!(words(at), ids::words(member_id(place)));
+        assert_eq!(group.subscriptions[at], subscription(place).into());
+        assert_eq!(group.timeouts[at], timeout(place));
         let is_heard_again = place < TOPICS;
         let (epoch, heard, revoked_at) = if is_heard_again {
             (31, tick(4, place), tick(3, place))
@@ -162,15 +164,16 @@ fn check_seats(seats: &[ffi::Seat]) {
             let joined = tick(1, place);
             (u32::from(place) + 1, joined, joined)
         };
-        assert_eq!((seat.epoch, seat.heard), (epoch, heard), "place {place}");
-        assert_eq!(seat.revoked_at, revoked_at, "place {place}");
+        assert_eq!(group.member_epochs[at], epoch, "place {place}");
+        assert_eq!(group.heard[at], heard, "place {place}");
+        assert_eq!(group.revoked_at[at], revoked_at, "place {place}");
     }
 }
 
-fn check_tables(tables: &ffi::Tables) {
-    assert_eq!(tables.target[..], entries(parted));
-    assert_eq!(tables.holder[..], entries(|topic, _| topic));
+fn check_slots(group: &ffi::Group) {
+    assert_eq!(group.target[..], entries(parted));
+    assert_eq!(group.holder[..], entries(|topic, _| topic));
     let waiting = entries(|_, partition| partition % 2);
     let waiting: Vec<bool> = waiting.iter().map(|&odd| odd == 1).collect();
-    assert_eq!(tables.waiting[..], waiting);
+    assert_eq!(group.waiting[..], waiting);
 }

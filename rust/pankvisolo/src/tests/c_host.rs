@@ -1,6 +1,6 @@
-//! The worked example in C, as a host in C would run it, and the README's few lines.
+//! The worked example as a host in C or C++ would run it, and the README's few lines.
 
-use super::c_compiler::{output_of, output_of_text};
+use super::c_compiler::{output_in, output_of_text, Language};
 
 const PRINTED: &str = "\
 P1: 0, interval 0, epoch 0, count 0, slot 65535
@@ -34,8 +34,10 @@ sweep: 0, interval 0, epoch 0, count 1, slot 65535
 ";
 
 #[test]
-fn p1_to_p4_a_refusal_and_a_sweep() {
-    assert_eq!(output_of("worked_example"), PRINTED);
+fn p1_to_p4_refusals_and_a_sweep() {
+    for language in [Language::C99, Language::C11, Language::Cpp17] {
+        assert_eq!(output_in(language, "worked_example"), PRINTED);
+    }
 }
 
 /// The README's program prints what the README says, between its command and the block's end.
@@ -46,6 +48,6 @@ fn the_program_of_the_readme() {
         let (_, rest) = readme.split_once(from).expect(from);
         rest.split_once(to).expect(to).0
     };
-    let printed = output_of_text("readme", between("```c\n", "```"));
+    let printed = output_of_text(Language::C11, between("```c\n", "```"));
     assert_eq!(printed, between("-o host && ./host\n", "```"));
 }

@@ -4,7 +4,8 @@
 
 use std::array;
 
-use crate::ffi::{self, Id, Reply, Request, Seat, Served, Topic};
+use crate::ffi::{self, Group, Id, Reply, Request};
+use crate::ids;
 
 const MEMBER: [u8; 16] = *b"0123456789abcdef";
 const TICK: u32 = 0x0102_0304;
@@ -16,32 +17,29 @@ const SLOTS: u16 = 0x010D;
 const NO_SLOT: u16 = 65_535;
 
 /// With a member at place 0 that holds nothing, and the first slots for it.
-fn group() -> ffi::Group {
+fn group() -> Group {
     let mut group = ffi::fresh(TICK);
     group.epoch = EPOCH;
     group.target_epoch = EPOCH;
-    group.topics = array::from_fn(|number| Topic {
-        id: [number as u8 + 1; 16],
-        count: 64,
-    });
-    group.seats[0] = Seat {
-        id: MEMBER,
-        epoch: EPOCH,
-        subscription: SUBSCRIPTION,
-        timeout: TIMEOUT,
-        heard: TICK,
-        revoked_at: TICK,
-        used: true,
-    };
-    group.tables.target[..usize::from(SLOTS)].fill(0);
+    group.topic_ids = array::from_fn(|number| [number as u8 + 1; 16]);
+    group.topic_counts = [64; 16];
+    for (column, word) in group.member_ids.iter_mut().zip(ids::words(MEMBER)) {
+        column[0] = word;
+    }
+    group.member_epochs[0] = EPOCH;
+    group.subscriptions[0] = SUBSCRIPTION.into();
+    group.timeouts[0] = TIMEOUT;
+    group.heard[0] = TICK;
+    group.revoked_at[0] = TICK;
+    group.target[..usize::from(SLOTS)].fill(0);
     group
 }
 
 /// The same, before its target is installed.
-fn group_without_target() -> ffi::Group {
+fn group_without_target() -> Group {
     let mut group = group();
     group.target_epoch = EPOCH - 1;
-    group.tables.target.fill(ffi::NO_PLACE);
+    group.target.fill(ffi::NO_PLACE);
     group
 }
 
@@ -68,12 +66,12 @@ fn beat() -> Request {
     }
 }
 
-fn send(group: &ffi::Group, request: Request, owned: &[u16]) -> Served {
-    ffi::heartbeat(group, request, owned, &mut [0; 4_096], &mut [0; 1_024])
+fn send(group: &mut Group, request: Request, owned: &[u16]) -> Reply {
+    ffi::heartbeat(group, &request, owned, &mut [0; 4_096], &mut [0; 1_024])
 }
 
-fn install(group: &ffi::Group, epoch: u32, entries: &[u8]) -> Reply {
-    ffi::install(group, epoch as i32, entries, &mut [0; 4_096]).reply
+fn install(mut group: Group, epoch: u32, entries: &[u8]) -> Reply {
+    ffi::install(&mut group, epoch as i32, entries, &mut [0; 4_096])
 }
 
 /// In the order of the declaration.
@@ -95,16 +93,17 @@ fn near(number: u32) -> [u32; 4] {
 
 #[test]
 fn a_join_stores_id_tick_timeout_and_subscription() {
-    let group = send(&ffi::fresh(TICK - 1), join(), &[]).group;
-    let seat = group.seats[0];
-    assert_eq!((group.tick, seat.heard), (TICK, TICK));
-    assert_eq!((seat.id, seat.timeout), (MEMBER, TIMEOUT));
-    assert_eq!(seat.subscription, SUBSCRIPTION);
+    let mut group = ffi::fresh(TICK - 1);
+    send(&mut group, join(), &[]);
+    assert_eq!((group.tick, group.heard[0]), (TICK, TICK));
+    assert_eq!(group.member_ids.map(|column| column[0]), ids::words(MEMBER));
+    assert_eq!(group.timeouts[0], TIMEOUT);
+    assert_eq!(group.subscriptions[0], SUBSCRIPTION.into());
 }
 
 #[test]
 fn the_epoch_of_a_request_is_compared_with_the_members() {
-    let at = |epoch| send(&group(), Request { epoch, ..beat() }, &[]).reply;
+    let at = |epoch| send(&mut group(), Request { epoch, ..beat() }, &[]);
     assert_eq!(at(EPOCH as i32).number, 0);
     for other in near(EPOCH) {
         assert_eq!(at(other as i32).number, 110, "{other:x}");
@@ -124,12 +123,13 @@ fn a_subscription_and_a_list_count_where_their_flags_say_so() {
             has_list,
             ..beat()
         };
-        let served = send(&group(), request, &not_held);
-        (served.reply.number, served.group.seats[0].subscription)
+        let mut group = group();
+        let reply = send(&mut group, request, &not_held);
+        (reply.number, group.subscriptions[0])
     };
-    assert_eq!(with(false, false), (0, SUBSCRIPTION));
-    assert_eq!(with(true, false), (0, subscription));
-    assert_eq!(with(false, true), (42, SUBSCRIPTION));
+    assert_eq!(with(false, false), (0, SUBSCRIPTION.into()));
+    assert_eq!(with(true, false), (0, subscription.into()));
+    assert_eq!(with(false, true), (42, SUBSCRIPTION.into()));
 }
 
 #[test]
@@ -138,80 +138,80 @@ fn every_field_of_a_reply_is_where_it_is_declared() {
     let count = u32::from(SLOTS);
     // 8, place, four bytes of E; the size of A in two and a byte for each slot; the size of P.
     let written = 2 + 4 + 2 + usize::from(SLOTS) + 1;
-    let told = send(&group(), beat(), &[]).reply;
+    let told = send(&mut group(), beat(), &[]);
     assert_eq!(fields(&told), (0, 5_000, epoch, count, NO_SLOT, written));
 
     // 8, 7 and 5, each with the place and 0; then 3 and four bytes of G.
-    let left = send(
-        &group(),
-        Request {
-            epoch: -1,
-            ..beat()
-        },
-        &[],
-    )
-    .reply;
+    let leave = Request {
+        epoch: -1,
+        ..beat()
+    };
+    let left = send(&mut group(), leave, &[]);
     assert_eq!(fields(&left), (0, 0, -1, 0, NO_SLOT, 14));
 
-    let swept = ffi::sweep(&group(), TICK + 45_000, &mut [0; 4_096]).reply;
+    let swept = ffi::sweep(&mut group(), TICK + 45_000, &mut [0; 4_096]);
     assert_eq!(fields(&swept), (0, 0, 0, 1, NO_SLOT, 14));
 
     let mut entries = [ffi::NO_PLACE; ffi::SLOTS];
     entries[usize::from(SLOTS)] = 1;
-    let refused = install(&group_without_target(), EPOCH, &entries);
+    let refused = install(group_without_target(), EPOCH, &entries);
     assert_eq!(fields(&refused), (1006, 0, 0, 0, SLOTS, 0));
 }
 
 #[test]
 fn ticks_are_taken_whole() {
     assert_eq!(ffi::fresh(TICK).tick, TICK);
-    assert_eq!(ffi::sweep(&ffi::fresh(0), TICK, &mut []).group.tick, TICK);
+    let mut group = ffi::fresh(0);
+    ffi::sweep(&mut group, TICK, &mut []);
+    assert_eq!(group.tick, TICK);
 }
 
 #[test]
 fn a_topic_has_the_number_the_id_and_the_count_that_were_given() {
     let make = |number, count| {
-        let id = Id { bytes: MEMBER };
-        ffi::topic(&ffi::fresh(TICK), number, id, count, &mut [0; 4_096])
+        let (mut group, id) = (ffi::fresh(TICK), Id { bytes: MEMBER });
+        let reply = ffi::set_topic(&mut group, number, id, count, &mut [0; 4_096]);
+        (reply.number, group)
     };
-    let made = make(13, 42);
-    assert_eq!(made.reply.number, 0);
-    let topic = made.group.topics[13];
-    assert_eq!((topic.id, topic.count), (MEMBER, 42));
+    let (number, group) = make(13, 42);
+    assert_eq!(number, 0);
+    assert_eq!((group.topic_ids[13], group.topic_counts[13]), (MEMBER, 42));
     // The bytes above the lowest count too.
     for byte in 1..4 {
         let high = 1 << (8 * byte);
-        assert_eq!(make(13 | high, 42).reply.number, 1007);
-        assert_eq!(make(13, 42 | high).reply.number, 1007);
+        assert_eq!(make(13 | high, 42).0, 1007);
+        assert_eq!(make(13, 42 | high).0, 1007);
     }
 }
 
 #[test]
 fn an_install_has_the_epoch_and_the_entries_that_were_given() {
-    let (before, after) = (group_without_target(), group());
-    let entries = after.tables.target;
-    let served = ffi::install(&before, EPOCH as i32, &entries, &mut [0; 4_096]);
-    assert_eq!(served.reply.number, 0);
-    assert_eq!(served.group.tables.target, entries);
-    assert_eq!(served.group.target_epoch, EPOCH);
+    let entries = group().target;
+    let mut installed = group_without_target();
+    let reply = ffi::install(&mut installed, EPOCH as i32, &entries, &mut [0; 4_096]);
+    assert_eq!(reply.number, 0);
+    assert_eq!(installed.target, entries);
+    assert_eq!(installed.target_epoch, EPOCH);
     for other in near(EPOCH) {
-        assert_eq!(install(&before, other, &entries).number, 1004, "{other:x}");
+        let reply = install(group_without_target(), other, &entries);
+        assert_eq!(reply.number, 1004, "{other:x}");
     }
-    let short = install(&before, EPOCH, &entries[1..]);
+    let short = install(group_without_target(), EPOCH, &entries[1..]);
     assert_eq!((short.number, short.slot), (1006, NO_SLOT));
 }
 
 /// Of the list the slots that were lent are read, and no more.
 #[test]
 fn a_list_of_owned_slots_is_read_to_its_end() {
-    let group = send(&group(), beat(), &[]).group;
+    let mut holding = group();
+    send(&mut holding, beat(), &[]);
     let slots: Vec<u16> = (0..=SLOTS).collect();
     let listing = |owned| {
         let request = Request {
             has_list: true,
             ..beat()
         };
-        send(&group, request, owned).reply.number
+        send(&mut holding.clone(), request, owned).number
     };
     let (held, one_more) = (&slots[..usize::from(SLOTS)], &slots[..]);
     assert_eq!((listing(held), listing(one_more)), (0, 42));
@@ -219,34 +219,35 @@ fn a_list_of_owned_slots_is_read_to_its_end() {
 }
 
 /// A buffer of just the bytes that the event writes will do, and one of a byte less will not.
-fn fills(event: impl Fn(&mut [u8]) -> Served, first: u8) {
+fn fills(group: &Group, first: u8, event: impl Fn(&mut Group, &mut [u8]) -> Reply) {
+    let event = |records: &mut [u8]| event(&mut group.clone(), records);
     let mut records = [0; 4_096];
-    let written = event(&mut records).reply.written;
+    let written = event(&mut records).written;
     assert_eq!(records[0], first);
-    assert_eq!(event(&mut records[..written]).reply.number, 0);
-    assert_eq!(event(&mut records[..written - 1]).reply.number, 1003);
+    assert_eq!(event(&mut records[..written]).number, 0);
+    assert_eq!(event(&mut records[..written - 1]).number, 1003);
 }
 
 #[test]
 fn buffers_and_lists_are_filled_to_their_end() {
-    let (before, after) = (group_without_target(), group());
-    let beat_into =
-        |records: &mut [u8], list: &mut [u16]| ffi::heartbeat(&after, beat(), &[], records, list);
-    fills(|records| beat_into(records, &mut [0; 1_024]), 8);
-    fills(|records| ffi::sweep(&after, TICK + 45_000, records), 8);
-    let id = || Id { bytes: MEMBER };
-    fills(|records| ffi::topic(&ffi::fresh(0), 3, id(), 5, records), 4);
-    let entries = &after.tables.target;
-    fills(
-        |records| ffi::install(&before, EPOCH as i32, entries, records),
-        7,
-    );
+    let beat_into = |group: &mut Group, records: &mut [u8], list: &mut [u16]| {
+        ffi::heartbeat(group, &beat(), &[], records, list).number
+    };
+    fills(&group(), 8, |group, records| {
+        ffi::heartbeat(group, &beat(), &[], records, &mut [0; 1_024])
+    });
+    fills(&group(), 8, |group, records| {
+        ffi::sweep(group, TICK + 45_000, records)
+    });
+    fills(&ffi::fresh(0), 4, |group, records| {
+        ffi::set_topic(group, 3, Id { bytes: MEMBER }, 5, records)
+    });
+    fills(&group_without_target(), 7, |before, records| {
+        ffi::install(before, EPOCH as i32, &group().target, records)
+    });
 
-    let mut list = [0; SLOTS as usize];
-    assert_eq!(
-        beat_into(&mut [0; 4_096], &mut list[1..]).reply.number,
-        1003
-    );
-    assert_eq!(beat_into(&mut [0; 4_096], &mut list).reply.number, 0);
+    let (mut records, mut list) = ([0; 4_096], [0; SLOTS as usize]);
+    assert_eq!(beat_into(&mut group(), &mut records, &mut list[1..]), 1003);
+    assert_eq!(beat_into(&mut group(), &mut records, &mut list), 0);
     assert!(list.into_iter().eq(0..SLOTS));
 }

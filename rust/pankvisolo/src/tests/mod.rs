@@ -6,4 +6,5 @@ mod by_numbers;
 mod c_compiler;
 mod c_host;
 mod calls;
+mod header;
 mod refusals;

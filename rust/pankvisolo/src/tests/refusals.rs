@@ -1,24 +1,31 @@
-//! A refused event brings back the group that went in, field by field: every refusal of 01's table,
-//! of every function that gives it. `Group` relies on it, and so may a host in C.
-//!
-//! What comes back is what a `Group` has in tests, here and in other packages.
+//! A refused event leaves the group as it was, field by field: every refusal of 01's table, of every
+//! function that gives it.
 
 use super::by_events::events;
-use crate::ffi::{self, Group, Id, Request, Seat, Served};
+use crate::ffi::{self, Group, Id, Reply, Request};
+use crate::ids;
 
 const STRANGER: [u8; 16] = [0x99; 16];
 
-fn refuses(group: &Group, number: u32, event: impl Fn(&Group) -> Served) {
-    let served = event(group);
-    assert_eq!(served.reply.number, number);
-    assert!(served.group == *group, "{number} changed the group");
+fn refuses(group: &Group, number: u32, event: impl Fn(&mut Group) -> Reply) {
+    let mut after = group.clone();
+    assert_eq!(event(&mut after).number, number);
+    assert!(after == *group, "{number} changed the group");
+}
+
+fn with_id(group: &Group, place: usize, id: [u8; 16]) -> Group {
+    let mut group = group.clone();
+    for (column, word) in group.member_ids.iter_mut().zip(ids::words(id)) {
+        column[place] = word;
+    }
+    group
 }
 
 /// From the member at place 0, and right.
 fn beat(group: &Group) -> Request {
     Request {
-        id: group.seats[0].id,
-        epoch: group.seats[0].epoch as i32,
+        id: ids::of(group.member_ids.map(|column| column[0])).expect("a member"),
+        epoch: group.member_epochs[0] as i32,
         tick: group.tick,
         timeout: -1,
         has_subscription: false,
@@ -40,18 +47,13 @@ fn join(group: &Group) -> Request {
 }
 
 fn full(group: &Group) -> Group {
-    let mut full = *group;
-    full.seats[31] = Seat {
-        id: [0x77; 16],
-        ..full.seats[30]
-    };
-    full
+    with_id(group, 31, [0x77; 16])
 }
 
 fn at_the_end(group: &Group) -> Group {
     Group {
         epoch: i32::MAX as u32,
-        ..*group
+        ..group.clone()
     }
 }
 
@@ -60,7 +62,8 @@ fn of_a_heartbeat() {
     let group = events().value;
     let refuses = |group: &Group, number, request: fn(&Group) -> Request, owned: &[u16]| {
         refuses(group, number, |group| {
-            ffi::heartbeat(group, request(group), owned, &mut [], &mut [])
+            let request = request(group);
+            ffi::heartbeat(group, &request, owned, &mut [], &mut [])
         });
     };
     let early = |group: &Group| Request {
@@ -97,7 +100,7 @@ fn of_a_heartbeat() {
 #[test]
 fn of_a_sweep() {
     let group = events().value;
-    let at = |tick| move |group: &Group| ffi::sweep(group, tick, &mut []);
+    let at = |tick| move |group: &mut Group| ffi::sweep(group, tick, &mut []);
     refuses(&group, 1001, at(group.tick - 1));
     refuses(&group, 1003, at(group.tick + 45_000));
 }
@@ -106,9 +109,9 @@ fn of_a_sweep() {
 fn of_a_topic() {
     let group = events().value;
     let raised_to = |count| {
-        move |group: &Group| {
-            let bytes = group.topics[0].id;
-            ffi::topic(group, 0, Id { bytes }, count, &mut [])
+        move |group: &mut Group| {
+            let bytes = group.topic_ids[0];
+            ffi::set_topic(group, 0, Id { bytes }, count, &mut [])
         }
     };
     refuses(&group, 1007, raised_to(65));
@@ -121,10 +124,10 @@ fn of_an_install() {
     let group = events().value;
     let with_target = Group {
         target_epoch: group.epoch,
-        ..group
+        ..group.clone()
     };
     let epoch = group.epoch as i32;
-    let of = |epoch, entries| move |group: &Group| ffi::install(group, epoch, entries, &mut []);
+    let of = |epoch, entries| move |group: &mut Group| ffi::install(group, epoch, entries, &mut []);
     refuses(&group, 1006, of(epoch, &[]));
     refuses(&group, 1004, of(epoch - 1, &[255; 1_024]));
     refuses(&with_target, 1005, of(epoch, &[255; 1_024]));
@@ -134,14 +137,10 @@ fn of_an_install() {
 
 /// A change in a place that is free shows in no function of a group, and in its value.
 #[test]
-fn what_comes_back_is_seen() {
+fn what_nothing_shows_is_compared_too() {
     let mut group = events();
     let before = group.clone();
-    let mut served = ffi::sweep(&group.value, group.value.tick - 1, &mut []);
-    group.keep(&served);
-    assert!(group == before);
-    served.group.seats[31].id = STRANGER;
-    group.keep(&served);
+    group.value.heard[31] += 1;
     assert!(group != before);
     assert_eq!(group.member_at(31), None);
 }

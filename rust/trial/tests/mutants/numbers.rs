@@ -91,7 +91,7 @@ fn a_tick_set_at_a_refusal() {
     caught_on_each(&TicksAtRefusal, Check::Change);
 }
 
-/// Changes at a refusal what shows only where the group handed back is compared as a value.
+/// Changes at a refusal what shows only where the group is compared as a value.
 struct ChangesHiddenAtRefusal;
 
 impl Mutation for ChangesHiddenAtRefusal {

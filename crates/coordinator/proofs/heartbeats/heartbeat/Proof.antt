@@ -1,15 +1,18 @@
--- Each arm is the step of its kind, and the epoch has that kind. Assumes nothing.
-use mathlib.Core.Path.{_≡_, ap, _∙_}
+-- Each arm is the step of its kind, and the epoch has that kind.
+use mathlib.Core.Path.{_≡_, refl, ap, _∙_}
+use mathlib.Core.List.{List}
+use mathlib.Core.Option.{Option}
 use mir.Syntax.{w32}
 use mir.Val.{SFits}
 use mir.Facts.{toZ-ofZ}
 use borrow.Author.Needs.{needs}
+use Rattle.rules.specs.Group.{Topic}
 use Rattle.rules.specs.Event.{Request, heartbeat}
 use Rattle.rules.specs.Refusals.{kindOf}
 use Rattle.rules.specs.Step.{Stepped, step}
 use Rattle.group.specs.Kinds.{viewKind}
 use Rattle.group.specs.declared.Kind.{Kind}
-use Rattle.group.specs.View.{view}
+use Rattle.group.specs.Parts.{Parts, parts, viewParts}
 use Rattle.events.specs.Outcomes.{requestOf, stepAs}
 use Rattle.coordinator.proofs.ByKind.{taken-as}
 use Rattle.coordinator.proofs.heartbeats.heartbeat.Statement.{statement}
@@ -17,6 +20,10 @@ use Rattle.coordinator.proofs.heartbeats.heartbeat.Tie as tie
 
 abbrev request : tie.Start → Request
 request c = requestOf (c .args .b) (c .args .owned .now)
+
+-- what is lent
+abbrev lent : tie.Start → Parts
+lent c = parts (c .args .head .now) (c .args .members .now) (c .args .target .now) (c .args .holder .now) (c .args .waiting .now)
 
 -- the epoch is handed on as it came
 kind-is : (c : tie.After-kind-of) → viewKind (c .kind-of .result) ≡ kindOf (request (c .before .before .before .before .before) .epoch)
@@ -26,10 +33,10 @@ kind-is c =
     c .kind-of .ensures ∙ ap kindOf (toZ-ofZ f)
 
 -- what an arm comes to, which took the case k of the kind
-by-kind : (c : tie.After-kind-of) {k : Kind} {out : Stepped} → c .kind-of .result ≡ k
-    → out ≡ stepAs (viewKind k) (view (c .before .before .before .before .before .args .g)) (request (c .before .before .before .before .before)) (c .before .before .before .before .before .args .records .now) (c .before .before .before .before .before .args .list .now)
-    → out ≡ step (view (c .before .before .before .before .before .args .g)) (heartbeat (request (c .before .before .before .before .before))) (c .before .before .before .before .before .args .records .now) (c .before .before .before .before .before .args .list .now)
-by-kind c e q = taken-as _ _ _ _ e (kind-is c) q
+by-kind : (c : tie.After-kind-of) {k : Kind} {out : Stepped} (topics : List (Option Topic)) → c .kind-of .result ≡ k
+    → out ≡ stepAs (viewKind k) (viewParts topics (lent (c .before .before .before .before .before))) (request (c .before .before .before .before .before)) (c .before .before .before .before .before .args .records .now) (c .before .before .before .before .before .args .list .now)
+    → out ≡ step (viewParts topics (lent (c .before .before .before .before .before))) (heartbeat (request (c .before .before .before .before .before))) (c .before .before .before .before .before .args .records .now) (c .before .before .before .before .before .args .list .now)
+by-kind c topics e q = taken-as _ _ _ _ e (kind-is c) q
 
 kind-of-requires : tie.Need-kind-of-requires
 kind-of-requires c κs = tt
@@ -64,11 +71,8 @@ same-length c = search needs
 returns : tie.Need-returns
 unfolding viewKind
 returns c =
-    let o = c .before .before .join .ensures in (
-      o .0,
-      let a = c .before .before .before .before .before .before .before .before .before .before .before .args in
-          by-kind (c .before .before .before .before .before .before) (c .before .before .before .before .enum-told .given .1) (o .1 (a .list .now)),
-    )
+    let o = c .before .before .join .ensures (c .before .before .before .before .before .before .before .before .before .before .before .before .before .before .before .before .args .list .now) in
+    (o .0, λ topics. by-kind (c .before .before .before .before .before .before .before .before .before .before .before) topics (c .before .before .before .before .before .before .before .before .before .enum-told .given .1) (o .1 topics))
 
 same-length-2 : tie.Need-same-length-2
 same-length-2 c = search needs
@@ -76,20 +80,16 @@ same-length-2 c = search needs
 returns-2 : tie.Need-returns-2
 unfolding viewKind
 returns-2 c =
-    let o = c .before .before .leave .ensures in (
-      o .0,
-      let a = c .before .before .before .before .before .before .before .before .before .before .before .args in
-          by-kind (c .before .before .before .before .before .before) (c .before .before .before .before .enum-told2 .given .1) (o .1 (a .owned .now) (a .list .now)),
-    )
+    let a = c .before .before .before .before .before .before .before .before .before .before .before .before .before .before .before .before .args in
+    let o = c .before .before .leave .ensures (a .owned .now) (a .list .now) in
+    (o .0, λ topics. by-kind (c .before .before .before .before .before .before .before .before .before .before .before) topics (c .before .before .before .before .before .before .before .before .before .enum-told2 .given .1) (o .1 topics))
 
 returns-3 : tie.Need-returns-3
 unfolding viewKind
 returns-3 c =
-    let o = c .refuse-epoch .ensures in (
-      o .0,
-      let a = c .before .before .before .before .before .before .before .before .args in
-          by-kind (c .before .before .before) (c .before .enum-told3 .given .1) (o .1 (a .owned .now) (a .records .now) (a .list .now)),
-    )
+    let a = c .before .before .before .before .before .before .before .before .before .args in
+    let o = c .refuse-epoch .ensures (lent (c .before .before .before .before .before .before .before .before .before)) (a .owned .now) (a .records .now) (a .list .now) refl in
+    (o .0, λ topics. by-kind (c .before .before .before .before) topics (c .before .before .enum-told3 .given .1) (o .1 topics))
 
 same-length-3 : tie.Need-same-length-3
 same-length-3 c = search needs
@@ -101,7 +101,7 @@ returns-4 : tie.Need-returns-4
 unfolding viewKind
 returns-4 c =
     let o = c .before .before .before .before .ordinary .ensures in
-    (o .0, by-kind (c .before .before .before .before .before .before .before .before .before .before) (c .before .before .before .before .before .before .before .before .kind .given .1) (o .1))
+    (o .0, λ topics. by-kind (c .before .before .before .before .before .before .before .before .before .before .before .before .before .before .before) topics (c .before .before .before .before .before .before .before .before .before .before .before .before .before .kind .given .1) (o .1 topics))
 
 pub heartbeat-spec : {M : Type 1} → statement M
 heartbeat-spec =

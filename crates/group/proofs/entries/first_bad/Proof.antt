@@ -1,12 +1,12 @@
--- The two arrays are the lists that the group gives, over which the test is the rules' own (`first-is`). Assumes nothing.
-use mathlib.Core.Path.{_∙_}
-use Rattle.group.proofs.Installing.{first-is}
+-- The array is the list of all places' subscriptions, over which the test is the rules' own (`first-bad-is`). Assumes nothing.
+use mathlib.Core.Path.{_≡_, _∙_}
+use lib.ListN.{length}
+use Rattle.rules.specs.Constants.{topicCount}
+use Rattle.group.specs.Columns.{viewMembers}
+use Rattle.group.proofs.Installing.{first-bad-is}
+use borrow.Author.Needs.{needs}
 use Rattle.group.proofs.entries.first_bad.Statement.{statement}
 use Rattle.group.proofs.entries.first_bad.Tie as tie
-use Rattle.rules.specs.Refusals.{firstBad}
-
-counts-of-requires : tie.Need-counts-of-requires
-counts-of-requires c κs = tt
 
 subscriptions-of-requires : tie.Need-subscriptions-of-requires
 subscriptions-of-requires c κs = tt
@@ -15,11 +15,11 @@ first-bad-of-requires : tie.Need-first-bad-of-requires
 first-bad-of-requires c κs = tt
 
 returns : tie.Need-returns
-unfolding firstBad
 returns c =
-    let a = c .before .before .before .before .before .before .args in
-    rw (c .before .before .counts-of .ensures, c .before .subscriptions-of .ensures) at (c .first-bad-of .ensures) ∙ first-is (a .g) 0 (a .entries .now)
+    let a = c .before .before .before .before .before .args in
+    let n : length (a .counts .now) ≡ topicCount = search needs in
+    λ g ids topics members.
+    rw (c .before .before .subscriptions-of .ensures) at (c .first-bad-of .ensures) ∙ first-bad-is g ids (a .counts .now) n topics (viewMembers (a .members .now)) members (a .entries .now)
 
 pub first-bad-spec : {M : Type 1} → statement M
-first-bad-spec =
-    tie.close (tie.spec counts-of-requires subscriptions-of-requires first-bad-of-requires returns)
+first-bad-spec = tie.close (tie.spec subscriptions-of-requires first-bad-of-requires returns)

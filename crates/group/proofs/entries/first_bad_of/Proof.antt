@@ -1,12 +1,12 @@
 -- As long as no entry was refused, the first of the rest is the first of all. Assumes nothing.
 use Prim.Native.Nat.{_-_, _≤_}
-use native.Mathlib.Omega.{arith}
 use mathlib.Core.Path.{_≡_, refl, sym, _∙_}
 use lib.ListN.{length, drop}
-use borrow.Author.Needs.{needs}
-use Rattle.group.specs.Entries.{counts, subscriptions, entryBad}
 use Rattle.rules.specs.Basics.{firstWith}
+use Rattle.group.specs.Entries.{entryBad}
 use Rattle.group.proofs.Installing.{first-found, first-later, first-none}
+use borrow.Author.Needs.{needs}
+use native.Mathlib.Omega.{arith}
 use Rattle.group.proofs.entries.first_bad_of.Statement.{statement}
 use Rattle.group.proofs.entries.first_bad_of.Tie as tie
 

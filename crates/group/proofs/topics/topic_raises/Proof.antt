@@ -1,6 +1,8 @@
--- By the first test; the members of the view are the views of the seats. Assumes nothing.
+-- By the first test. Assumes nothing.
+use mathlib.Core.Path.{sym, ap, _∙_}
+use Rattle.rules.specs.Basics.{any}
+use Rattle.rules.specs.Group.{subscribes}
 use Rattle.rules.specs.Refusals.{topicRaises}
-use Rattle.group.specs.View.{view}
 use Rattle.group.proofs.topics.topic_raises.Statement.{statement}
 use Rattle.group.proofs.topics.topic_raises.Tie as tie
 
@@ -11,12 +13,12 @@ any-subscribes-requires : tie.Need-any-subscribes-requires
 any-subscribes-requires c κs = tt
 
 returns : tie.Need-returns
-unfolding topicRaises view
-returns c = rw (← (c .before .before .before .topic-changes .ensures), c .before .before .if1 .taken) (c .any-subscribes .ensures)
+unfolding topicRaises
+returns c = λ g ids e m. rw (sym (c .before .before .topic-changes .ensures g ids e) ∙ c .before .if1 .taken) (c .any-subscribes .ensures ∙ ap (any (subscribes (c .before .before .before .args .number))) (sym m))
 
 returns-2 : tie.Need-returns-2
-unfolding topicRaises view
-returns-2 c = rw (← (c .before .topic-changes .ensures), c .if1 .left)
+unfolding topicRaises
+returns-2 c = λ g ids e m. rw (sym (c .before .topic-changes .ensures g ids e) ∙ c .if1 .left)
 
 pub topic-raises-spec : {M : Type 1} → statement M
 topic-raises-spec =

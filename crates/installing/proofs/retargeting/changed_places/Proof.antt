@@ -1,41 +1,35 @@
--- At each slot that was passed, a place that is not marked is in both targets or in neither (`Marking`). Assumes nothing.
+-- At each slot that was passed, a place that is not marked is in both targets or in neither; one that is marked was in one alone at some slot (`Marking`).
 use Prim.Native.Nat.{_-_, _≤_}
 use native.Mathlib.Omega.{arith}
+use mathlib.Core.Path.{_≡_}
+use mathlib.Core.Bool.{false}
+use lib.ListN.{length, getD-replicate}
 use borrow.Author.Needs.{needs}
-use Rattle.rules.specs.Constants.{slotCount}
+use Rattle.rules.specs.Constants.{maxMembers, slotCount}
 use Rattle.installing.proofs.Targets.{Marking, mark-begin, mark-skip, mark-both, mark-end}
 use Rattle.installing.proofs.retargeting.changed_places.Statement.{statement}
 use Rattle.installing.proofs.retargeting.changed_places.Tie as tie
 
 abbrev Inv-loop : tie.InvT-loop
-Inv-loop before after marks₀ s₀ marks s = (s ≤ slotCount) × Marking (marks .at) before after s
+Inv-loop before after marks₀ s₀ marks s = (s ≤ slotCount) × Marking marks before after s
 
 abbrev μ-loop : tie.MeasureT-loop
 μ-loop before after marks₀ s₀ marks s = slotCount - s
 
 loop-holds : tie.Need-loop-holds Inv-loop μ-loop
-loop-holds c = (omega arith, mark-begin _ _ _)
+loop-holds c = (omega arith, mark-begin _ _ _ (λ p h. getD-replicate maxMembers p false false h))
 
-element-copy-out-old : tie.Need-element-copy-out-old Inv-loop μ-loop
-element-copy-out-old c = search needs
-
-element-copy-out-new : tie.Need-element-copy-out-new Inv-loop μ-loop
-element-copy-out-new c = search needs
+shared-slice-read-new : tie.Need-shared-slice-read-new Inv-loop μ-loop
+shared-slice-read-new c = omega (arith, c .before .before .before .before .before .before .pre)
 
 add-s : tie.Need-add-s Inv-loop μ-loop
 add-s c = omega arith
-
-with-requires : tie.Need-with-requires Inv-loop μ-loop
-with-requires c κs = tt
-
-with-requires-2 : tie.Need-with-requires-2 Inv-loop μ-loop
-with-requires-2 c κs = tt
 
 loop-less : tie.Need-loop-less Inv-loop μ-loop
 loop-less c = omega arith
 
 loop-again : tie.Need-loop-again Inv-loop μ-loop
-loop-again c = (omega arith, mark-both _ _ (c .before .with .result .at) (c .before .before .before .before .before .before .loop .inv .1) (c .before .with .ensures) (c .with2 .ensures))
+loop-again c = (omega arith, mark-both _ _ (c .before .before .mark .last .0) (c .mark2 .last .0) (c .before .before .before .before .before .before .before .before .loop .inv .1) (c .before .before .before .before .if1 .taken) (c .before .before .mark .ensures) (c .mark2 .ensures))
 
 loop-less-2 : tie.Need-loop-less-2 Inv-loop μ-loop
 loop-less-2 c = omega arith
@@ -46,8 +40,9 @@ loop-again-2 c = (omega arith, mark-skip _ _ (c .before .before .before .before 
 returns : tie.Need-returns Inv-loop μ-loop
 returns c =
     let l = c .before .loop in
-    let x = c .before .before in
-    mark-end (x .args .before .now) (x .args .after .now) (x .pre .0) (x .pre .1) (omega arith) (l .inv .1)
+    let x = c .before .before .before .before in
+    let n : length (x .args .before .now) ≡ slotCount = search needs in
+    mark-end (x .args .before .now) (x .args .after .now) n (x .pre) (omega arith) (l .inv .1)
 
 pub changed-places-spec : {M : Type 1} → statement M
 changed-places-spec =
@@ -56,11 +51,11 @@ changed-places-spec =
     Inv-loop
     μ-loop
     loop-holds
-    element-copy-out-old
-    element-copy-out-new
+    (λ c. search needs)
+    shared-slice-read-new
     add-s
-    with-requires
-    with-requires-2
+    (λ c κs. tt)
+    (λ c κs. tt)
     loop-less
     loop-again
     loop-less-2

@@ -41,4 +41,12 @@ returns c = λ z s h. c .before .loop .inv .1 z s (omega arith)
 pub any-waits-spec : {M : Type 1} → statement M
 any-waits-spec =
     tie.close
-    (tie.spec Inv-loop μ-loop loop-holds element-copy-out-some add-i loop-less loop-again returns)
+    (tie.spec
+    Inv-loop
+    μ-loop
+    loop-holds
+    element-copy-out-some
+    add-i
+    loop-less
+    loop-again
+    returns)

@@ -1,0 +1,4 @@
+pub mod Replies
+pub mod Lent
+pub mod Decoding
+pub mod Runs

@@ -1,0 +1,142 @@
+// The functions of the static library, for hosts in Rust or C. A group is the host's, and an event changes it where it lies; buffers and lists are lent too; an
+// answer comes as plain numbers. No function asks anything of its caller: the contracts settle every value of every parameter. With a number that is not 0 every
+// byte of the group is as it was.
+// A function that takes a group does nothing but lend its parts, all for one lifetime. Its proof is a walk of its code, which tools/walk.py writes.
+ghost use mathlib.Core.Path.{_≡_};
+ghost use mathlib.Core.List.{List};
+ghost use Prim.Native.Nat.{ℕ};
+ghost use Rattle.rules.specs.Group.{fresh};
+ghost use Rattle.rules.specs.Event as E;
+ghost use Rattle.group.specs.View.{view};
+ghost use Rattle.events.specs.Outcomes.{requestOf};
+ghost use Rattle.pankvisolo.specs.Replies.{Serves};
+ghost use Rattle.pankvisolo.specs.Decoding.{Decodes};
+ghost use Rattle.pankvisolo.specs.Runs.{LibrarySingleHolder, LibrarySettles};
+
+mod lent; // lent.rt: the events over a group whose parts are all lent
+
+use events::Request;
+use group::Group;
+use rules::ID_LENGTH;
+
+// The 16 bytes of a topic's ID.
+#[repr(C)]
+pub struct Id {
+    pub bytes: [u8; ID_LENGTH],
+}
+
+// An answer: 01's number (0: accepted); the heartbeat interval; the epoch, -1 for a leave; how many slots the answer carries or members a sweep removed;
+// the slot that is reported, or 65,535; how many bytes of records were written.
+#[repr(C)]
+pub struct Reply {
+    pub number: u32,
+    pub interval: u32,
+    pub epoch: i64,
+    pub count: u32,
+    pub slot: u16,
+    pub written: usize,
+}
+
+// A group with no topics and no members. A host reads every answer off its numbers, and demand 3 holds of every run of the library from this group: no slot is
+// ever with two members, and three rounds of heartbeats settle every member on the target in force.
+#[no_mangle]
+pub extern "C" fn pankvisolo_fresh(tick: u32) -> Group
+    ensures { λ r. ⌜ (view r ≡ fresh tick) × Decodes × LibrarySingleHolder r × LibrarySettles r ⌝ }
+{
+    coordinator::fresh(tick)
+}
+
+// A heartbeat. `owned` is the list that came with it, if it has one; the records go to the front of `records`, and the slots that an answer carries to the front
+// of `list`; what lies beyond them in either stays.
+#[no_mangle]
+pub extern "C" fn pankvisolo_heartbeat(
+    group: &mut Group,
+    request: &Request,
+    owned: &[u16],
+    records: &mut [u8],
+    list: &mut [u16],
+) -> Reply
+    ensures { λ r. ⌜ Serves (E.heartbeat (requestOf (now (request .entry)) (now (owned .entry)))) (now (group .entry)) (now (group .exit)) r (now (records .entry)) (now (records .exit)) (now (list .entry)) (now (list .exit)) ⌝ }
+{
+    lent::heartbeat(
+        &mut group.head,
+        &mut group.members,
+        &mut group.topic_ids,
+        &mut group.topic_counts,
+        &mut group.target,
+        &mut group.holder,
+        &mut group.waiting,
+        *request,
+        owned,
+        records,
+        list,
+    )
+}
+
+// Removes each member that has not been heard for the session timeout, or has slots to give back for longer than its rebalance timeout.
+#[no_mangle]
+pub extern "C" fn pankvisolo_sweep(group: &mut Group, tick: u32, records: &mut [u8]) -> Reply
+    ensures { λ r. ⌜ ((l : List ℕ) → Serves (E.sweep tick) (now (group .entry)) (now (group .exit)) r (now (records .entry)) (now (records .exit)) l l) ⌝ }
+{
+    lent::sweep(
+        &mut group.head,
+        &mut group.members,
+        &mut group.topic_ids,
+        &mut group.topic_counts,
+        &mut group.target,
+        &mut group.holder,
+        &mut group.waiting,
+        tick,
+        records,
+    )
+}
+
+// Makes a topic, or raises its count.
+#[no_mangle]
+pub extern "C" fn pankvisolo_set_topic(
+    group: &mut Group,
+    number: u32,
+    id: Id,
+    count: u32,
+    records: &mut [u8],
+) -> Reply
+    ensures { λ r. ⌜ ((l : List ℕ) → Serves (E.topic number (id .bytes) count) (now (group .entry)) (now (group .exit)) r (now (records .entry)) (now (records .exit)) l l) ⌝ }
+{
+    lent::set_topic(
+        &mut group.head,
+        &mut group.members,
+        &mut group.topic_ids,
+        &mut group.topic_counts,
+        &mut group.target,
+        &mut group.holder,
+        &mut group.waiting,
+        number,
+        id,
+        count,
+        records,
+    )
+}
+
+// Installs a target: for each slot a place, or 255 for none.
+#[no_mangle]
+pub extern "C" fn pankvisolo_install(
+    group: &mut Group,
+    epoch: i32,
+    entries: &[u8],
+    records: &mut [u8],
+) -> Reply
+    ensures { λ r. ⌜ ((l : List ℕ) → Serves (E.install epoch (now (entries .entry))) (now (group .entry)) (now (group .exit)) r (now (records .entry)) (now (records .exit)) l l) ⌝ }
+{
+    lent::install(
+        &mut group.head,
+        &mut group.members,
+        &mut group.topic_ids,
+        &mut group.topic_counts,
+        &mut group.target,
+        &mut group.holder,
+        &mut group.waiting,
+        epoch,
+        entries,
+        records,
+    )
+}

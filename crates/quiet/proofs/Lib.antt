@@ -1,0 +1,4 @@
+pub mod Rising
+pub mod Counting
+pub mod Marking
+pub mod Matching
