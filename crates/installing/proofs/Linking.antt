@@ -1,23 +1,19 @@
--- The slots of a target linked from the last to the first (`link-none`, `link-some`), and the record of a place from its links.
+-- The slots of a target linked from the last to the first (`link-none`, `link-some`), and the set of a place along its links.
 use Prim.Native.Nat.{ℕ, _+_, _≤_, _<_}
 use native.Mathlib.Omega.{arith}
 use native.Mathlib.Decide.{ℕ-discrete}
 use native.Mathlib.Numerals.{add-one}
 use mathlib.Core.Path.{_≡_, sym, ap, _∙_, subst}
 use mathlib.Core.Bool.{true, false, true≢false}
-use mathlib.Core.List.{List, [], _∷_, append-nil}
-use lib.Dec.{lit<}
+use mathlib.Core.List.{List}
 use lib.ListN.{length, getD, set, length-set}
 use lib.Seq.{getD-set-same, getD-set-other}
 use borrow.Author.Tests.{eq-eqb, ne-eqb, eqb-true}
 use Rattle.rules.specs.Constants.{maxMembers, slotCount}
 use Rattle.rules.specs.Basics.{keep, upTo}
 use Rattle.rules.specs.Group.{setM}
-use Rattle.rules.specs.Records.{number, differences, setBytes, bytesOf}
-use Rattle.rules.proofs.Number.{number-small}
-use Rattle.numbers.specs.Buffer.{flat}
 use Rattle.slots.proofs.Selecting.{select-in, select-out, select-skip}
-use Rattle.installing.specs.Targets.{unheld, targetOf}
+use Rattle.installing.specs.Targets.{unheld}
 use Rattle.installing.specs.Links.{isOf, slotsFrom, NextOf, LinkedFrom}
 use Rattle.installing.proofs.Targets.{set-is}
 
@@ -116,13 +112,3 @@ module _ (target : List ℕ) (p : ℕ) where
 
   pub set-count : {n : ℕ} → length target ≡ slotCount → n ≡ length (slotsFrom target p 0) → n ≡ length (setM p (unheld target))
   set-count l e = e ∙ sym (ap length (set-is p target l))
-
--- ---- record 7 from the links
-
-module _ (target : List ℕ) (p : ℕ) {n : ℕ} (e : n ≡ length (setM p (unheld target))) where
-  abbrev pub targetParts : List (List ℕ)
-  targetParts = number 7 ∷ number p ∷ number n ∷ differences 0 (setM p (unheld target)) ∷ []
-
-  pub target-parts : flat targetParts ≡ bytesOf (targetOf target p)
-  unfolding bytesOf targetOf setBytes
-  target-parts = rw (number-small 7 (lit< tt), e) (simp append-nil)

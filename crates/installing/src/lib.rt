@@ -10,7 +10,6 @@ ghost use Rattle.rules.specs.Step.{step};
 ghost use Rattle.group.specs.Parts.{targetBefore, targetAfter, viewTargetParts};
 ghost use Rattle.events.specs.Outcomes.{Becomes, carried};
 
-mod links; // links.rt: the slots of a target, linked place by place
 mod retargeting; // retargeting.rt: the records of an install
 
 use events::Outcome;

@@ -1,17 +1,18 @@
 // The records of an install: 7 for each place whose set of target slots changes, then 6.
-// One pass over both targets marks the places whose sets change; a second links the slots of the new one.
+// One pass over both targets marks the places whose sets change; a second links the slots of the new one place by place, so that the record of a place is
+// written from its own slots alone.
 ghost use mathlib.Core.Path.{_≡_};
 ghost use mathlib.Core.Bool.{false, _||_};
 ghost use Prim.Native.Nat.{ℕ, _≤_, _<_};
 ghost use lib.Dec.{eqb};
 ghost use lib.ListN.{length, getD};
 ghost use Rattle.rules.specs.Constants.{maxMembers, slotCount};
-ghost use Rattle.rules.specs.Records.{allBytes};
+ghost use Rattle.rules.specs.Group.{setM};
+ghost use Rattle.rules.specs.Records.{bytesOf, allBytes, differences};
 ghost use Rattle.rules.specs.Effects.{installRecords};
 ghost use Rattle.numbers.specs.Buffer.{Wrote};
-ghost use Rattle.installing.specs.Targets.{unheld, markedRecords, markedInstall, installMost, Marked, Stores};
+ghost use Rattle.installing.specs.Targets.{unheld, targetOf, markedRecords, markedInstall, installMost, Marked, Stores};
 ghost use Rattle.installing.specs.Links.{Linked};
-use crate::links;
 use rules::MEMBERS;
 use rules::Place;
 use rules::SLOT_END;
@@ -58,6 +59,75 @@ fn changed_places(before: &[u8; SLOTS], after: &[u8]) -> [bool; MEMBERS]
     marks
 }
 
+// Links the slots of a target: the first slot of each place and how many it has; and for each slot of a place the next one of that place. 1024 where there is none.
+// A list that is no target, for its length, is not linked.
+fn link_slots<'a>(
+    target: &[u8],
+    firsts: &'a mut [u16; MEMBERS],
+    counts: &'a mut [u16; MEMBERS],
+    nexts: &'a mut [u16; SLOTS],
+)
+    ensures { λ r. ⌜ (length (now (target .entry)) ≡ slotCount → Linked (now (target .entry)) (now (firsts .exit)) (now (counts .exit)) (now (nexts .exit))) ⌝ }
+{
+    if target.len() != SLOTS {
+        return;
+    }
+    *firsts = [SLOT_END; MEMBERS];
+    *counts = [0; MEMBERS];
+    let all: &[u16] = nexts;
+    let mut s = SLOTS;
+    while s > 0 {
+        s -= 1;
+        let entry = target[s];
+        let p = entry as usize;
+        if p < MEMBERS {
+            nexts[s] = firsts[p];
+            firsts[p] = s as u16;
+            counts[p] += 1;
+        }
+    }
+}
+
+// Writes the lowest slot of the place p and then each difference at the start of `buf`, and returns how many bytes that took.
+fn put_differences<'a>(
+    buf: &mut [u8],
+    target: &[u8],
+    firsts: &'a [u16; MEMBERS],
+    counts: &'a [u16; MEMBERS],
+    nexts: &'a [u16; SLOTS],
+    p: Place,
+) -> usize
+    requires { ⌜ Linked (now target) (now firsts) (now counts) (now nexts) × (p .0 < maxMembers) × (length (differences 0 (setM (p .0) (unheld (now target)))) ≤ length (now buf)) ⌝ }
+    ensures { λ r. ⌜ Wrote (differences 0 (setM (p .0) (unheld (now (target .entry))))) (now (buf .entry)) (now (buf .exit)) r ⌝ }
+{
+    let mut at: usize = 0;
+    let mut last: u16 = 0;
+    let mut slot = firsts[p.0 as usize];
+    while slot < SLOT_END {
+        at = numbers::put_number_at(buf, at, (slot - last) as u32);
+        last = slot;
+        slot = nexts[slot as usize];
+    }
+    at
+}
+
+// Record 7 of the place p: its target.
+fn put_target<'a>(
+    buf: &mut [u8],
+    target: &[u8],
+    firsts: &'a [u16; MEMBERS],
+    counts: &'a [u16; MEMBERS],
+    nexts: &'a [u16; SLOTS],
+    p: Place,
+) -> usize
+    requires { ⌜ Linked (now target) (now firsts) (now counts) (now nexts) × (p .0 < maxMembers) × (length (bytesOf (targetOf (now target) (p .0))) ≤ length (now buf)) ⌝ }
+    ensures { λ r. ⌜ Wrote (bytesOf (targetOf (now (target .entry)) (p .0))) (now (buf .entry)) (now (buf .exit)) r ⌝ }
+{
+    let count = counts[p.0 as usize];
+    let at = records::kinds::put_target_front(buf, p, count as u32);
+    at + put_differences(&mut buf[at..], target, firsts, counts, nexts, p)
+}
+
 // Record 7 for each place that is marked, rising.
 fn put_targets<'a>(
     buf: &mut [u8],
@@ -78,7 +148,7 @@ fn put_targets<'a>(
         let mark = marks[i];
         i += 1;
         if mark {
-            at += links::put_target(&mut buf[at..], after, firsts, counts, nexts, p);
+            at += put_target(&mut buf[at..], after, firsts, counts, nexts, p);
         }
     }
     at
@@ -165,7 +235,7 @@ pub fn store_install(buf: &mut [u8], before: &[u8; SLOTS], after: &[u8], epoch: 
     let mut firsts = [SLOT_END; MEMBERS];
     let mut counts = [0u16; MEMBERS];
     let mut nexts = [SLOT_END; SLOTS];
-    links::link_slots(after, &mut firsts, &mut counts, &mut nexts);
+    link_slots(after, &mut firsts, &mut counts, &mut nexts);
     if buf.len() < MOST {
         return store_tight(buf, &marks, after, &firsts, &counts, &nexts, epoch);
     }

@@ -5,10 +5,10 @@ use Prim.Native.Nat.{ℕ, _+_}
 use native.Mathlib.Omega.{arith}
 use lib.Dec.{lit<}
 use lib.ListN.{length, length-append}
-use Rattle.rules.specs.Records.{TopicMetadata, MemberMetadata, TargetAssignment, CurrentAssignment, groupEpoch, topicIs, memberIs, memberGone, targetEpoch, targetIs, currentIs, currentGone, number, setBytes, bytesOf}
+use Rattle.rules.specs.Records.{TopicMetadata, MemberMetadata, TargetAssignment, CurrentAssignment, groupEpoch, topicIs, memberIs, memberGone, targetEpoch, targetIs, currentIs, currentGone, number, differences, setBytes, bytesOf}
 use Rattle.numbers.specs.Buffer.{flat}
 use Rattle.rules.proofs.Number.{number-small}
-use Rattle.records.specs.Fields.{numbers}
+use Rattle.records.specs.Fields.{numbers, targetFront}
 
 pub numbers-parts : (xs : List ℕ) → flat (map number xs) ≡ numbers xs
 unfolding numbers
@@ -52,12 +52,10 @@ member-fields m =
     ∙ ap (λ (l : List ℕ). 5 ∷ l) (append-assoc (number (m .place)) (1 ∷ []) rest)
     ∙ ap (λ (l : List ℕ). 5 ∷ (number (m .place) ++ 1 ∷ (m .id ++ (number (m .timeout) ++ l)))) (append-nil (number (m .subscription)))
 
-abbrev pub targetParts : TargetAssignment → List (List ℕ)
-targetParts t = numbers (7 ∷ t .place ∷ []) ∷ setBytes (t .slots) ∷ []
-
-pub target-fields : (t : TargetAssignment) → flat (targetParts t) ≡ bytesOf (targetIs t)
-unfolding bytesOf numbers
-target-fields t = rw (number-small 7 (lit< tt)) (simp (append-nil, append-assoc))
+-- the size n as it was counted
+pub target-fields : (t : TargetAssignment) {n : ℕ} → n ≡ length (t .slots) → flat (targetFront (t .place) n ∷ differences 0 (t .slots) ∷ []) ≡ bytesOf (targetIs t)
+unfolding bytesOf numbers targetFront setBytes
+target-fields t e = rw (number-small 7 (lit< tt), e) (simp append-nil (ap (λ (l : List ℕ). 7 ∷ l) (append-assoc (number (t .place)) (number (length (t .slots))) (differences 0 (t .slots)))))
 
 abbrev pub currentParts : CurrentAssignment → List (List ℕ)
 currentParts c = numbers (8 ∷ c .place ∷ c .epoch ∷ []) ∷ setBytes (c .assigned) ∷ setBytes (c .revoking) ∷ []

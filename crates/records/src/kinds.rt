@@ -7,7 +7,7 @@ ghost use lib.ListN.{length};
 ghost use Rattle.rules.specs.Constants.{slotCount};
 ghost use Rattle.rules.specs.Records.{bytesOf, groupEpoch, topicIs, memberIs, memberGone, targetEpoch, targetIs, currentIs, currentGone};
 ghost use Rattle.numbers.specs.Buffer.{Wrote};
-ghost use Rattle.records.specs.Fields.{numbers};
+ghost use Rattle.records.specs.Fields.{numbers, targetFront};
 ghost use Rattle.records.specs.Views.{viewTopicMetadata, viewMemberMetadata, viewTarget, viewCurrent};
 use crate::sets;
 use rules::Id;
@@ -140,14 +140,22 @@ pub fn target_epoch_len(epoch: u32) -> usize
     1 + numbers::number_len(epoch) // the kind, 6, takes one byte
 }
 
+// The front of record 7: the kind, the place and how many slots it has. The slots follow, by their differences.
+pub fn put_target_front(buf: &mut [u8], place: Place, count: u32) -> usize
+    requires { ⌜ length (targetFront (place .0) count) ≤ length (now buf) ⌝ }
+    ensures { λ r. ⌜ Wrote (targetFront (place .0) count) (now (buf .entry)) (now (buf .exit)) r ⌝ }
+{
+    put_three(buf, 7, place.0 as u32, count)
+}
+
 // Record 7: the target of a place.
 pub fn put_target(buf: &mut [u8], t: TargetAssignment) -> usize
     requires { ⌜ length (bytesOf (targetIs (viewTarget t))) ≤ length (now buf) ⌝ }
     ensures { λ r. ⌜ Wrote (bytesOf (targetIs (viewTarget t))) (now (buf .entry)) (now (buf .exit)) r ⌝ }
 {
     let slots = t.slots;
-    let at = put_two(buf, 7, t.place.0 as u32);
-    sets::put_set_at(buf, at, slots)
+    let at = put_target_front(buf, t.place, slots.count());
+    at + sets::put_differences(&mut buf[at..], slots)
 }
 
 // How many bytes record 7 takes.

@@ -11,7 +11,7 @@ use rules::SLOT_END;
 use slots::SlotSet;
 
 // Writes the lowest slot and then each difference at the start of `buf`, and returns how many bytes that took.
-fn put_differences(buf: &mut [u8], set: SlotSet) -> usize
+pub fn put_differences(buf: &mut [u8], set: SlotSet) -> usize
     requires { ⌜ length (differences 0 (slotsOf (set .words))) ≤ length (now buf) ⌝ }
     ensures { λ r. ⌜ Wrote (differences 0 (slotsOf (set .words))) (now (buf .entry)) (now (buf .exit)) r ⌝ }
 {

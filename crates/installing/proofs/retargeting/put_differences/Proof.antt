@@ -16,8 +16,8 @@ use Rattle.records.proofs.Differences.{run-next}
 use Rattle.installing.specs.Targets.{unheld}
 use Rattle.installing.specs.Links.{isOf, slotsFrom, NextOf}
 use Rattle.installing.proofs.Linking.{skip-to, set-from}
-use Rattle.installing.proofs.links.put_differences.Statement.{statement}
-use Rattle.installing.proofs.links.put_differences.Tie as tie
+use Rattle.installing.proofs.retargeting.put_differences.Statement.{statement}
+use Rattle.installing.proofs.retargeting.put_differences.Tie as tie
 
 -- place p begins at `slot`, and there is room for it
 abbrev Begins : List ℕ → List ℕ → List ℕ → ℕ → ℕ → Type 0

@@ -8,8 +8,8 @@ use Rattle.rules.specs.Constants.{maxMembers, slotCount}
 use Rattle.slots.proofs.Selecting.{select-le}
 use Rattle.installing.specs.Links.{isOf, LinkedFrom}
 use Rattle.installing.proofs.Linking.{link-begin, link-none, link-some}
-use Rattle.installing.proofs.links.link_slots.Statement.{statement}
-use Rattle.installing.proofs.links.link_slots.Tie as tie
+use Rattle.installing.proofs.retargeting.link_slots.Statement.{statement}
+use Rattle.installing.proofs.retargeting.link_slots.Tie as tie
 
 abbrev Inv-loop : tie.InvT-loop
 Inv-loop target firsts₀ counts₀ nexts₀ s₀ firsts counts nexts s = (s ≤ slotCount) × LinkedFrom s target firsts counts nexts
