@@ -14,7 +14,7 @@ use borrow.Author.Tests.{eq-eqb, ne-eqb}
 use Rattle.rules.specs.Basics.{if_then_else_, concatMap, upTo, keep}
 use Rattle.rules.specs.Constants.{maxMembers}
 use Rattle.rules.specs.Records.{Record, allBytes}
-use Rattle.slots.proofs.Selecting.{select-in, select-out, select-ext}
+use Rattle.slots.proofs.Selecting.{select-in, select-out}
 use Rattle.records.proofs.Lists.{all-append, all-none}
 
 -- the places from i on
@@ -46,10 +46,7 @@ module _ (f : ℕ → Bool) (i : ℕ) where
   unfolding keep
   picked-end h = ap (keep f) (places-end i h)
 
--- tests that agree on the places pick the same; what is made of the places picked is the same, if it is at each of those
-pub keep-same : (f h : ℕ → Bool) (n k : ℕ) → ((p : ℕ) → p < n + k → f p ≡ h p) → keep f (upTo n k) ≡ keep h (upTo n k)
-keep-same f h n k e = select-ext f h n k (λ p _ q. e p q)
-
+-- what is made of the places picked is the same, if it is at each of those
 pub concat-same : {A : Type 0} (f : ℕ → Bool) (rs ss : ℕ → List A) (n k : ℕ) → ((p : ℕ) → p < n + k → f p ≡ true → rs p ≡ ss p) → concatMap rs (keep f (upTo n k)) ≡ concatMap ss (keep f (upTo n k))
 unfolding keep upTo
 concat-same f rs ss n zero e = refl

@@ -8,3 +8,7 @@ pub mod Sweeps
 pub mod Topics
 pub mod Installs
 pub mod Limits
+pub mod Recovering
+pub mod Journals
+pub mod Stops
+pub mod Batches

@@ -17,7 +17,7 @@ installing epoch a b c = install (pos epoch) (entries (a ∷ b ∷ c ∷ []))
 
 -- The event; the answer (of a heartbeat E and the slots); the bytes; G, T and the last tick, the members by place (E, last heard, P last set), slots 0, 1
 -- and 2, after it.
-pub cases : List Row
+unfoldable pub cases : List Row
 cases =
     -- P1 topic 0, ID 11*, count 3: G stays 0
     answers (topic 0 (id 0x11) 3) Done

@@ -15,8 +15,7 @@ use Rattle.rules.specs.Constants.{maxMembers, slotCount, noPlace}
 use Rattle.rules.specs.Group.{SlotState, freeSlot, targeted, setM}
 use Rattle.slots.specs.Set.{select}
 use Rattle.slots.proofs.Each.{getD-any}
-use Rattle.slots.proofs.Selecting.{select-ext, select-has}
-use Rattle.rules.proofs.Lists.{or-false, same-refl, same-eq}
+use Rattle.rules.proofs.Lists.{keep-ext, keep-has, or-false, same-refl, same-eq}
 use Rattle.tables.specs.View.{viewLists}
 use Rattle.tables.proofs.Listing.{select-indices}
 use Rattle.events.proofs.Places.{eqb-swap}
@@ -50,14 +49,14 @@ module _ (p : ℕ) where
   module _ (ts us : List ℕ) (k : length ts ≡ slotCount) (l : length us ≡ slotCount) where
     pub same-sets : ((s : ℕ) → s < slotCount → isOf ts p s ≡ isOf us p s) → same (setM p (unheld ts)) (setM p (unheld us)) ≡ true
     same-sets h =
-        let e = set-is ts k ∙ select-ext (isOf ts p) (isOf us p) 0 slotCount (λ s _ q. h s (omega arith)) ∙ sym (set-is us l) in
+        let e = set-is ts k ∙ keep-ext (isOf ts p) (isOf us p) 0 slotCount (λ s _ q. h s (omega arith)) ∙ sym (set-is us l) in
         ap (λ (x : List ℕ). same x (setM p (unheld us))) e ∙ same-refl (setM p (unheld us))
 
     pub other-sets : (s : ℕ) → s < slotCount → (isOf ts p s ≡ isOf us p s → ⊥) → same (setM p (unheld ts)) (setM p (unheld us)) ≡ false
     other-sets s h d = go (same (setM p (unheld ts)) (setM p (unheld us))) refl
       where
         in-set : (vs : List ℕ) → length vs ≡ slotCount → any (eqb s) (setM p (unheld vs)) ≡ isOf vs p s
-        in-set vs n = ap (any (eqb s)) (set-is vs n) ∙ select-has (isOf vs p) slotCount 0 s (omega arith) (omega arith)
+        in-set vs n = ap (any (eqb s)) (set-is vs n) ∙ keep-has (isOf vs p) slotCount 0 s (omega arith) (omega arith)
 
         go : (x : Bool) → same (setM p (unheld ts)) (setM p (unheld us)) ≡ x → x ≡ false
         go true e =

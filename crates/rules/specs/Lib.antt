@@ -11,5 +11,10 @@ pub mod Reader
 pub mod Ledger
 pub mod Course
 pub mod Rounds
+pub mod Batches
+pub mod Readings
+pub mod Journal
+pub mod Files
+pub mod Brokers
 pub mod Accepted
 pub mod Theorems

@@ -1,18 +1,18 @@
 -- The rising list of the numbers that a test picks, by `select`: its first number, its length, which numbers it has, and that numbers that are not picked
 -- are stepped over.
-use mathlib.Core.Path.{_≡_, refl, sym, ap, ap₂, _∙_}
-use mathlib.Core.Bool.{Bool, true, false, _||_}
+use mathlib.Core.Path.{_≡_, sym, ap, _∙_}
+use mathlib.Core.Bool.{Bool, true, false}
 use mathlib.Core.List.{List, _∷_}
 use Prim.Native.Nat.{ℕ, zero, suc, _+_, _-_, _≤_, _<_}
 use native.Mathlib.Nat.{add-zero}
-use native.Mathlib.Decide.{ℕ-discrete, decLt}
+use native.Mathlib.Decide.{decLt}
 use native.Mathlib.Numerals.{add-one}
 use native.Mathlib.Omega.{arith}
 use lib.Dec.{eqb}
 use lib.ListN.{length}
-use borrow.Author.Tests.{eq-eqb, ne-eqb}
 use Rattle.rules.specs.Basics.{if_then_else_, any, keep, upTo}
 use Rattle.rules.specs.Constants.{slotCount}
+use Rattle.rules.proofs.Lists.{keep-ext, keep-has}
 use Rattle.slots.specs.Set.{has, select, slotsOf, NextFrom}
 
 -- the first of the numbers that are left is picked, or is not
@@ -67,40 +67,11 @@ module _ (ws : List ℕ) (from r : ℕ) (h : from ≤ slotCount) (n : NextFrom w
   next-skips = select-skip (has ws) slotCount from r next-ahead (n .0) (n .1)
 
 -- sets that agree have the same list
-pub select-ext : (f g : ℕ → Bool) (b n : ℕ) → ((s : ℕ) → b ≤ s → s < b + n → f s ≡ g s) → select f b n ≡ select g b n
-unfolding keep upTo
-select-ext f g b zero h = refl
-select-ext f g b (suc n) h =
-    ap₂ (λ (x : Bool) (l : List ℕ). if x then b ∷ l else l) (h b (omega arith) (omega arith))
-    (select-ext f g (suc b) n (λ s p q. h s (omega arith) (omega arith)))
-
 pub slots-are : (ws : List ℕ) (f : ℕ → Bool) → ((s : ℕ) → s < slotCount → has ws s ≡ f s) → slotsOf ws ≡ select f 0 slotCount
 unfolding slotsOf
-slots-are ws f h = select-ext (has ws) f 0 slotCount (λ s p q. h s (omega arith))
+slots-are ws f h = keep-ext (has ws) f 0 slotCount (λ s p q. h s (omega arith))
 
 -- a number stands in the list where it is picked
-below-first : (f : ℕ → Bool) (n b s : ℕ) → s < b → any (eqb s) (select f b n) ≡ false
-unfolding keep upTo
-below-first f zero b s h = refl
-below-first f (suc n) b s h = go (f b) (select f (suc b) n) (below-first f n (suc b) s (omega arith))
-  where
-    go : (x : Bool) (l : List ℕ) → any (eqb s) l ≡ false → any (eqb s) (if x then b ∷ l else l) ≡ false
-    go true l e = ap₂ _||_ (ne-eqb s b (λ (q : s ≡ b). omega arith)) e
-    go false l e = e
-
-pub select-has : (f : ℕ → Bool) (n b s : ℕ) → b ≤ s → s < b + n → any (eqb s) (select f b n) ≡ f s
-unfolding keep upTo
-select-has f zero b s h l = absurd (omega arith)
-select-has f (suc n) b s h l =
-    go (f b) refl (select f (suc b) n) (ℕ-discrete s b) (below-first f n (suc b) s) (λ (q : s ≡ b → ⊥). select-has f n (suc b) s (omega arith) (omega arith))
-  where
-    go : (x : Bool) → f b ≡ x → (r : List ℕ) → Dec (s ≡ b) → (s < suc b → any (eqb s) r ≡ false) → ((s ≡ b → ⊥) → any (eqb s) r ≡ f s)
-        → any (eqb s) (if x then b ∷ r else r) ≡ f s
-    go true p r (yes q) no-more more = ap (λ (y : Bool). y || any (eqb s) r) (eq-eqb s b q) ∙ sym (ap f q ∙ p)
-    go true p r (no q) no-more more = ap (λ (y : Bool). y || any (eqb s) r) (ne-eqb s b q) ∙ more q
-    go false p r (yes q) no-more more = no-more (omega arith) ∙ sym (ap f q ∙ p)
-    go false p r (no q) no-more more = more q
-
 pub slots-have : (ws : List ℕ) (s : ℕ) → s < slotCount → any (eqb s) (slotsOf ws) ≡ has ws s
 unfolding slotsOf
-slots-have ws s h = select-has (has ws) slotCount 0 s (omega arith) (omega arith)
+slots-have ws s h = keep-has (has ws) slotCount 0 s (omega arith) (omega arith)

@@ -17,6 +17,7 @@ use Rattle.rules.specs.Constants.{maxMembers, slotCount, sessionTimeout}
 use Rattle.rules.specs.Group as G
 use Rattle.rules.specs.Group.{SlotState, freeSlot, revoking, targeted, elapsed}
 use Rattle.rules.specs.Effects.{due, overdue, overduePlaces}
+use Rattle.rules.proofs.Lists.{keep-ext}
 use Rattle.tables.specs.View.{viewLists, Sizes}
 use Rattle.tables.specs.Places.{TellsTarget}
 use Rattle.tables.proofs.Lists.{any-off}
@@ -25,7 +26,7 @@ use Rattle.group.specs.Columns.{cell, memberOf, viewPlace, viewMembers}
 use Rattle.group.specs.View.{viewWith}
 use Rattle.group.specs.Words.{allZero}
 use Rattle.group.proofs.Columns.{member-at}
-use Rattle.events.proofs.Places.{eqb-swap, mark-set, keep-same}
+use Rattle.events.proofs.Places.{eqb-swap, mark-set}
 use Rattle.sweeping.specs.Marks.{mark, marked, Marks, MarksDue}
 
 -- ---- places that are to give slots back
@@ -110,7 +111,7 @@ pub due-overdue : (topics : List (Option G.Topic)) (head ms ts hs : List ℕ) (w
     → MarksDue ms revokes tick marks → ((p : ℕ) → p < maxMembers → revokes p ≡ any (revoking p) (viewLists ts hs ws)) → marked marks ≡ overduePlaces (viewWith topics head ms ts hs ws) tick
 unfolding marked overduePlaces overdue viewWith
 due-overdue topics head ms ts hs ws tick revokes marks m e =
-    keep-same _ _ 0 maxMembers (λ p q. m p q ∙ ap (λ (x : Bool). due tick x (getD (viewMembers ms) p none)) (e p q))
+    keep-ext _ _ 0 maxMembers (λ p _ q. m p q ∙ ap (λ (x : Bool). due tick x (getD (viewMembers ms) p none)) (e p q))
 
 -- ---- of the places that go, those that are targets: the marks below i
 

@@ -3,7 +3,7 @@ use Rattle.rules.specs.Theorems.{Theorems}
 use Rattle.theorems.proofs.Refusing.{refusal-changes-nothing, room-always-then, room-only-then}
 use Rattle.theorems.proofs.Holding.{assigned-or-revoking, held-once, targeted-once}
 use Rattle.theorems.proofs.Readable.{readable}
-use Rattle.theorems.proofs.Bounds.{epochs-never-fall, epochs-ordered}
+use Rattle.theorems.proofs.Legible.{epochs-never-fall, epochs-ordered}
 use Rattle.theorems.proofs.Emptying.{accepted-join, accepted-leave, accepted-sweep}
 use Rattle.theorems.proofs.Removing.{leave-at-end, sweep-at-end, swept-is-difference}
 use Rattle.theorems.proofs.Revoking.{accepted-ordinary}

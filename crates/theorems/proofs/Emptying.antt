@@ -38,7 +38,7 @@ given-some : (o : Option ℕ) (d : ℕ) → not (given o) ≡ false → o ≡ so
 given-some none d e = absurd (true≢false e)
 given-some (some n) d e = refl
 
-timeout-given : (z : ℤ) (d : ℕ) → noTimeout z ≡ false → z ≡ pos (timeoutOr z d)
+pub timeout-given : (z : ℤ) (d : ℕ) → noTimeout z ≡ false → z ≡ pos (timeoutOr z d)
 unfolding noTimeout
 timeout-given (pos n) d e = refl
 timeout-given (negsuc n) d e = absurd (true≢false e)

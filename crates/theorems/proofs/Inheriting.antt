@@ -1,36 +1,36 @@
 -- Nobody inherits: in a reached group a place with no member has nothing in A, P and M. Each kind of accepted event keeps this, by what specs/Accepted says of
 -- it alone.
-use Prim.Native.Nat.{ℕ, zero, suc, _+_, _<_, _≤_}
-use native.Mathlib.Nat.{add-suc, add-zero, suc-add}
-use native.Mathlib.Omega.{arith}
+use Prim.Native.Nat.{ℕ, _<_}
 use mathlib.Core.Path.{_≡_, refl, sym, ap, _∙_, subst}
 use mathlib.Core.Logic.{_≢_}
 use mathlib.Core.Bool.{Bool, true, false, true≢false}
-use mathlib.Core.List.{List, [], _∷_}
+use mathlib.Core.List.{List, []}
 use mathlib.Core.Option.{none, some}
 use lib.ListN.{length, getD, replicate}
 use lib.Dec.{eqb, ltb}
-use borrow.Author.Tests.{eqb-true, ltb-false, ne-eqb}
-use Rattle.rules.specs.Basics.{firstWith, if_then_else_, indices}
+use borrow.Author.Tests.{eqb-true, ne-eqb}
+use Rattle.rules.specs.Basics.{indices}
 use Rattle.rules.specs.Constants.{maxMembers, noPlace, slotCount}
-use Rattle.rules.specs.Group.{Group, Member, SlotState, assigned, exists, freeSlot, fresh, revoking, setA, setM, setP, subscribes, targeted}
+use Rattle.rules.specs.Group.{Group, Member, SlotState, assigned, freeSlot, fresh, revoking, setA, setM, setP, targeted}
 use Rattle.rules.specs.Event.{Event, Request, heartbeat, install, sweep, topic}
-use Rattle.rules.specs.Refusals.{Kind, badEntry, firstBad, heartbeatTable, invalid, joins, kindOf, leaves, ordinary, table}
+use Rattle.rules.specs.Refusals.{Kind, firstBad, heartbeatTable, invalid, joins, kindOf, leaves, ordinary, table}
 use Rattle.rules.specs.Effects.{overdue}
 use Rattle.rules.specs.Step.{step}
 use Rattle.rules.specs.Course.{stepped}
+use Rattle.rules.specs.Batches.{retimed}
 use Rattle.rules.specs.Accepted.{Accepted, AfterInstall, AfterLeave, AfterSweep, AfterTopic, Bare, Stays}
 use Rattle.rules.specs.Theorems.{NobodyInherits, Reached}
 use Rattle.rules.proofs.Lists.{not-is-false}
 use Rattle.theorems.proofs.Cases.{by-cases, eq-cases, never, none-not}
 use Rattle.theorems.proofs.Picks.{blank-at, indices-none}
+use Rattle.theorems.proofs.Retimed.{none-retimed}
 use Rattle.theorems.proofs.Accepting.{AllFalse, no-row}
 use Rattle.theorems.proofs.Reaching.{reached-keeps}
 use Rattle.theorems.proofs.Slots.{free-revoking, not-assigned}
 use Rattle.theorems.proofs.Vacating.{bare-stays}
 use Rattle.theorems.proofs.Emptying.{accepted-join, accepted-leave, accepted-sweep, placed}
 use Rattle.theorems.proofs.Revoking.{accepted-ordinary}
-use Rattle.theorems.proofs.Untouched.{accepted-install, accepted-topic}
+use Rattle.theorems.proofs.Untouched.{accepted-install, accepted-topic, entry-occupied}
 use Rattle.theorems.proofs.Ids.{sized}
 
 abbrev VacantBare : Group → Type 0
@@ -79,34 +79,11 @@ module _ (g h : Group) (v : VacantBare g) where
       let b = v p l n in
       record { assigned = a .assigned p ∙ b .assigned; revoking = a .revoking p ∙ b .revoking; targeted = a .targeted p ∙ unnamed p l n }
 
--- where no entry is refused, none is bad
-all-good : (f : ℕ → ℕ → Bool) (n : ℕ) (l : List ℕ) → n + length l ≤ firstWith f n l → (d i : ℕ) → i < length l → f (n + i) (getD l i d) ≡ false
-unfolding firstWith
-all-good f n [] h d i lt = absurd (omega arith)
-all-good f n (x ∷ xs) h d i lt = pick (f n x) refl h i lt (all-good f (suc n) xs)
-  where
-    pick : (c : Bool) → f n x ≡ c → n + suc (length xs) ≤ (if c then n else firstWith f (suc n) xs) → (i : ℕ) → i < suc (length xs)
-        → (suc n + length xs ≤ firstWith f (suc n) xs → (d i : ℕ) → i < length xs → f (suc n + i) (getD xs i d) ≡ false) → f (n + i) (getD (x ∷ xs) i d) ≡ false
-    pick true e k i b ih = absurd (omega arith)
-    pick false e k zero b ih = rw (add-zero n) e
-    pick false e k (suc i) b ih = rw (add-suc n i ∙ sym (suc-add n i)) (ih (omega arith) d i (omega arith))
-
--- an entry for a place with no member is bad
-vacant-bad : (g : Group) (s p : ℕ) → p ≢ noPlace → getD (g .members) p none ≡ none → badEntry g s p ≡ true
-unfolding badEntry subscribes
-vacant-bad g s p h n = by-cases (exists g s) (λ e. rw (ne-eqb p noPlace h, e, n) refl) (λ e. rw (ne-eqb p noPlace h, e) refl)
-
 unnamed : (g : Group) (entries : List ℕ) → length entries ≡ slotCount → ltb (firstBad g entries) slotCount ≡ false
     → (p : ℕ) → p < maxMembers → getD (g .members) p none ≡ none → indices (λ e. eqb e p) 0 entries ≡ []
-unfolding firstBad
 unnamed g entries long good p l n =
-    indices-none (λ e. eqb e p) noPlace entries 0 (λ i lt. never (eqb (getD entries i noPlace) p) (λ e. true≢false (sym (bad i e) ∙ fine i lt)))
-  where
-    bad : (i : ℕ) → eqb (getD entries i noPlace) p ≡ true → badEntry g (0 + i) (getD entries i noPlace) ≡ true
-    bad i e = ap (badEntry g (0 + i)) (eqb-true (getD entries i noPlace) p e) ∙ vacant-bad g (0 + i) p (placed p l) n
-
-    fine : (i : ℕ) → i < length entries → badEntry g (0 + i) (getD entries i noPlace) ≡ false
-    fine i lt = all-good (badEntry g) 0 entries (omega (arith, ltb-false (firstWith (badEntry g) 0 entries) slotCount good)) noPlace i lt
+    indices-none (λ e. eqb e p) noPlace entries 0
+    (λ i _. never (eqb (getD entries i noPlace) p) (λ e. entry-occupied g entries long good i p (placed p l) (eqb-true (getD entries i noPlace) p e) n))
 
 -- ---- every kind of event
 
@@ -127,5 +104,7 @@ keeps g r v (install x entries) buffer list ok =
     after-install g _ v entries (unnamed g entries long (rows .1 .1 .1 .0)) (accepted-install x entries g buffer list (sized g r) ok)
 
 pub nobody-inherits : NobodyInherits
-unfolding fresh stepped
-nobody-inherits = reached-keeps VacantBare (λ tick p l n. fresh-bare p (placed p l)) (λ g r t typed v ok. keeps g r v (t .event) (t .buffer) (t .list) ok)
+unfolding fresh stepped retimed
+nobody-inherits =
+    reached-keeps VacantBare (λ tick p l n. fresh-bare p (placed p l)) (λ g r t typed v ok. keeps g r v (t .event) (t .buffer) (t .list) ok)
+    (λ t g v p l n. v p l (none-retimed t (g .members) p n))

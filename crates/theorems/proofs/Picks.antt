@@ -4,13 +4,15 @@ use native.Mathlib.Nat.{zero-lt-suc, suc-inj, suc-ne-zero, add-suc, add-zero, le
 use native.Mathlib.Omega.{arith}
 use mathlib.Core.Path.{_≡_, refl, sym, ap, _∙_, subst}
 use mathlib.Core.Logic.{⊎-elim}
-use mathlib.Core.Bool.{Bool, true, false, false≢true}
+use mathlib.Core.Bool.{Bool, true, false, true≢false, false≢true}
 use mathlib.Core.List.{List, [], _∷_, map, List·Memᴰ, List·Memᴰ·cases-cons, List·Memᴰ·head, List·Memᴰ·not-nil, List·Memᴰ·tail}
 use mathlib.Core.Option.{Option, none, some}
 use lib.ListN.{length, getD, set, replicate}
-use Rattle.rules.specs.Basics.{any, find, indices, keep, upTo}
-use Rattle.rules.proofs.Lists.{indices-sound}
-use Rattle.theorems.proofs.Cases.{eq-cases, if-cases, no-some, none-not, some-inj}
+use lib.Dec.{eqb}
+use borrow.Author.Tests.{eq-eqb, eqb-true}
+use Rattle.rules.specs.Basics.{any, find, firstWith, if_then_else_, indices, keep, upTo}
+use Rattle.rules.proofs.Lists.{any-mem, indices-sound}
+use Rattle.theorems.proofs.Cases.{by-cases, eq-cases, if-cases, never, no-some, none-not, some-inj}
 
 pub blank-at : {A : Type 0} (d : A) (n i : ℕ) → getD (replicate n d) i d ≡ d
 blank-at d zero i = refl
@@ -106,6 +108,26 @@ indices-ext f k d c (x ∷ xs) (y ∷ ys) n e h =
 pub indices-none : {A : Type 0} (f : A → Bool) (d : A) (l : List A) (n : ℕ) → ((i : ℕ) → i < length l → f (getD l i d) ≡ false) → indices f n l ≡ []
 indices-none f d [] n h = refl
 indices-none f d (x ∷ xs) n h = rw (h 0 (zero-lt-suc (length xs)), indices-none f d xs (suc n) (λ i b. h (suc i) (suc-le-suc b))) refl
+
+-- whether a number is listed, as a test: it is the test by which the list was made
+listed-as : (l : List ℕ) (s : ℕ) (c : Bool) → (c ≡ true → List·Memᴰ s l) → (List·Memᴰ s l → c ≡ true) → any (eqb s) l ≡ c
+listed-as l s true in′ out = by-cases (any (eqb s) l) (λ e. e) (λ e. absurd (true≢false (sym (eq-eqb s s refl) ∙ any-mem (eqb s) l e (in′ refl))))
+listed-as l s false in′ out = any-none-mem (eqb s) l (λ x m. never (eqb s x) (λ e. false≢true (out (subst (λ (y : ℕ). List·Memᴰ y l) (sym (eqb-true s x e)) m))))
+
+pub listed-picked : {A : Type 0} (f : A → Bool) (l : List A) (d : A) (s : ℕ) → s < length l → any (eqb s) (indices f 0 l) ≡ f (getD l s d)
+listed-picked f l d s h = listed-as (indices f 0 l) s (f (getD l s d)) (is-listed f l d s h) (passes f l d s)
+
+-- where the first that fails is past the end, none fails
+pub none-fails : (f : ℕ → ℕ → Bool) (n : ℕ) (l : List ℕ) → n + length l ≤ firstWith f n l → (d i : ℕ) → i < length l → f (n + i) (getD l i d) ≡ false
+unfolding firstWith
+none-fails f n [] h d i lt = absurd (omega arith)
+none-fails f n (x ∷ xs) h d i lt = pick (f n x) refl h i lt (none-fails f (suc n) xs)
+  where
+    pick : (c : Bool) → f n x ≡ c → n + suc (length xs) ≤ (if c then n else firstWith f (suc n) xs) → (i : ℕ) → i < suc (length xs)
+        → (suc n + length xs ≤ firstWith f (suc n) xs → (d i : ℕ) → i < length xs → f (suc n + i) (getD xs i d) ≡ false) → f (n + i) (getD (x ∷ xs) i d) ≡ false
+    pick true e k i b ih = absurd (omega arith)
+    pick false e k zero b ih = rw (add-zero n) e
+    pick false e k (suc i) b ih = rw (add-suc n i ∙ sym (suc-add n i)) (ih (omega arith) d i (omega arith))
 
 -- ---- numbers kept of those below a bound
 

@@ -1,88 +1,111 @@
--- Groups reached from a fresh one: what a fresh group has and every accepted event keeps, every one of them has.
-use Prim.Native.Nat.{ℕ}
+-- Groups reached from a fresh one: what a fresh group has, every accepted event keeps and every reading keeps, every one of them has.
+use Prim.Native.Nat.{ℕ, suc, _≤_}
 use mathlib.Core.Path.{refl, sym, ap, _∙_, subst}
 use mathlib.Core.Bool.{true≢false}
 use mathlib.Core.List.{List, [], _∷_, _++_, foldl, foldl-append}
 use Rattle.rules.specs.Constants.{maxMembers}
-use Rattle.rules.specs.Group.{Group, Member, fresh, placeOf}
+use Rattle.rules.specs.Group.{Group, Member, fresh, placeOf, raised}
 use Rattle.rules.specs.Event.{Event, Request, heartbeat, install, sweep, topic}
-use Rattle.rules.specs.Refusals.{Kind, heartbeatTable, invalid, joins, kindOf, leaves, ordinary, senderOf, table}
-use Rattle.rules.specs.Effects.{changed, effect, heartbeatEffect, installEffect, joinAt, joinEffect, joinPlace, joiner, leaveAt, leaveEffect, memberAfter, ordinaryAt, overduePlaces, remove, sweepEffect, sweepOf, topicEffect, withTarget, withTopic}
+use Rattle.rules.specs.Refusals.{Kind, heartbeatTable, invalid, joins, kindOf, leaves, ordinary, senderOf, table, topicRaises}
+use Rattle.rules.specs.Effects.{changed, effect, groupEpochAfter, heartbeatEffect, installEffect, joinAt, joinEffect, joinPlace, joiner, leaveAt, leaveEffect, memberAfter, ordinaryAt, overduePlaces, remove, sweepEffect, sweepEpoch, sweepOf, topicEffect, topicEpoch, withTarget, withTopic}
 use Rattle.rules.specs.Step.{carryOut}
-use Rattle.rules.specs.Course.{AllTyped, Call, Course, Typed, begun, courseAfter, next, stepped}
+use Rattle.rules.specs.Course.{Call, Typed, stepped}
+use Rattle.rules.specs.Batches.{retimed}
+use Rattle.rules.specs.Readings.{Item, ItemTyped, ItemsTyped, groupAfter, happens, nextGroup, reads}
 use Rattle.rules.specs.Accepted.{Accepted}
 use Rattle.rules.specs.Theorems.{Reached}
 use Rattle.theorems.proofs.Picks.{Each, each-absent, each-none, each-put}
+use Rattle.theorems.proofs.Retimed.{each-retimed, timed}
+use Rattle.theorems.proofs.Epochs.{heartbeat-rises, next-if, sweep-next}
 use Rattle.theorems.proofs.Accepting.{AllFalse, carried, no-row, step-cases}
 
-reached-fresh : (tick : ℕ) → Reached (begun (fresh tick) .group)
-unfolding courseAfter
-reached-fresh tick = record { tick = tick; calls = []; typed = tt; is = refl }
+pub reached-fresh : (tick : ℕ) → Reached (fresh tick)
+unfolding groupAfter
+reached-fresh tick = record { tick = tick; items = []; typed = tt; is = refl }
 
-typed-after : (ts : List Call) (t : Call) → AllTyped ts → Typed (t .event) → AllTyped (ts ++ t ∷ [])
-typed-after [] t h k = (k, tt)
-typed-after (u ∷ ts) t h k = (h .0, typed-after ts t (h .1) k)
+pub typed-after : (is : List Item) (i : Item) → ItemsTyped is → ItemTyped i → ItemsTyped (is ++ i ∷ [])
+typed-after [] i h k = (k, tt)
+typed-after (j ∷ is) i h k = (h .0, typed-after is i (h .1) k)
 
--- what an event leaves of a reached group is reached
-reached-next : (g : Group) → Reached g → (t : Call) → Typed (t .event) → Reached (stepped g t .group)
-unfolding courseAfter next
-reached-next g r t ok = record {
+-- what an event or a reading leaves of a reached group is reached
+pub reached-next : (g : Group) → Reached g → (i : Item) → ItemTyped i → Reached (nextGroup g i)
+unfolding groupAfter
+reached-next g r i ok = record {
   tick = r .tick;
-  calls = r .calls ++ t ∷ [];
-  typed = typed-after (r .calls) t (r .typed) ok;
-  is = ap (λ (h : Group). stepped h t .group) (r .is) ∙ ap (λ (c : Course). c .group) (sym (foldl-append next (begun (fresh (r .tick))) (r .calls) (t ∷ [])));
+  items = r .items ++ i ∷ [];
+  typed = typed-after (r .items) i (r .typed) ok;
+  is = ap (λ (h : Group). nextGroup h i) (r .is) ∙ sym (foldl-append nextGroup (fresh (r .tick)) (r .items) (i ∷ []));
 }
 
--- what every typed call keeps, every list of them keeps
-pub course-keeps : (P : Course → Type 0) → ((c : Course) (t : Call) → Typed (t .event) → P c → P (next c t)) → (ts : List Call) (c : Course) → AllTyped ts → P c → P (courseAfter c ts)
-unfolding courseAfter
-course-keeps P kept [] c ok h = h
-course-keeps P kept (t ∷ ts) c ok h = course-keeps P kept ts (next c t) (ok .1) (kept c t (ok .0) h)
+-- what every typed item keeps, of whatever goes on with it, every list of them keeps
+pub items-keep : {S : Type 0} (next : S → Item → S) (P : S → Type 0) → ((s : S) (i : Item) → ItemTyped i → P s → P (next s i))
+    → (is : List Item) (s : S) → ItemsTyped is → P s → P (foldl next s is)
+items-keep next P kept [] s ok h = h
+items-keep next P kept (i ∷ is) s ok h = items-keep next P kept is (next s i) (ok .1) (kept s i (ok .0) h)
 
 pub reached-keeps : (P : Group → Type 0) → ((tick : ℕ) → P (fresh tick))
     → ((g : Group) → Reached g → (t : Call) → Typed (t .event) → P g → Accepted g (t .event) (t .buffer) (t .list) → P (stepped g t .group))
+    → ((t : ℕ) (g : Group) → P g → P (retimed t g))
     → (g : Group) → Reached g → P g
-unfolding begun next stepped carryOut
-reached-keeps P first kept g r =
-    subst P (sym (r .is)) (course-keeps (λ c. Reached (c .group) × P (c .group)) (λ c t ok h. (reached-next (c .group) (h .0) t ok, call c t ok h))
-    (r .calls) (begun (fresh (r .tick))) (r .typed) (reached-fresh (r .tick), first (r .tick)) .1)
+unfolding groupAfter nextGroup stepped carryOut
+reached-keeps P first kept read g r =
+    subst P (sym (r .is))
+    (items-keep nextGroup (λ g. Reached g × P g) (λ g i ok h. (reached-next g (h .0) i ok, item g i ok h)) (r .items) (fresh (r .tick)) (r .typed) (reached-fresh (r .tick), first (r .tick)) .1)
   where
-    call : (c : Course) (t : Call) → Typed (t .event) → Reached (c .group) × P (c .group) → P (stepped (c .group) t .group)
-    call c t ok h =
-        let g = c .group in
+    item : (g : Group) (i : Item) → ItemTyped i → Reached g × P g → P (nextGroup g i)
+    item g (happens t told) ok h =
         step-cases g (t .event) (t .buffer) (t .list) (λ s. P (s .group)) (λ _. h .1)
         (λ accepted _. rw (carried g (t .event) (t .buffer) (t .list) accepted) at (kept g (h .0) t ok (h .1) accepted))
+    item g (reads t) ok h = read t g (h .1)
 
 -- the same, said of the effects
-pub reached-has : (P : Group → Type 0) → ((tick : ℕ) → P (fresh tick)) → ((g : Group) (e : Event) → Typed e → P g → AllFalse (table g e) → P (effect g e .group)) → (g : Group) → Reached g → P g
+pub reached-has : (P : Group → Type 0) → ((tick : ℕ) → P (fresh tick))
+    → ((g : Group) (e : Event) → Typed e → P g → AllFalse (table g e) → P (effect g e .group))
+    → ((t : ℕ) (g : Group) → P g → P (retimed t g))
+    → (g : Group) → Reached g → P g
 unfolding stepped carryOut
 reached-has P first kept = reached-keeps P first (λ g r t ok h accepted.
     rw (carried g (t .event) (t .buffer) (t .list) accepted) (kept g (t .event) ok h (no-row g (t .event) (t .buffer) (t .list) accepted)))
 
 -- ---- members
 
-each-removed : (Q : Member → Type 0) (ps : List ℕ) (g : Group) → Each Q (g .members) → Each Q (foldl remove g ps .members)
-unfolding remove changed
-each-removed Q [] g each = each
-each-removed Q (p ∷ ps) g each = each-removed Q ps (remove g p) (each-none Q (g .members) p each)
+pub removed-keep : (P : Group → Type 0) → ((g : Group) (p : ℕ) → P g → P (remove g p)) → (ps : List ℕ) (g : Group) → P g → P (foldl remove g ps)
+removed-keep P kept [] g h = h
+removed-keep P kept (p ∷ ps) g h = removed-keep P kept ps (remove g p) (kept g p h)
 
--- what every joiner has and every ordinary heartbeat keeps, each member has
-module _ (Q : Member → Type 0) (joined : (g : Group) (b : Request) → Typed (heartbeat b) → AllFalse (heartbeatTable g b joins) → Q (joiner g b))
-    (kept : (g : Group) (b : Request) (e : ℕ) → Typed (heartbeat b) → AllFalse (heartbeatTable g b (ordinary e)) → Each Q (g .members) → Q (memberAfter g (senderOf g b) b)) where
-  heartbeat-each : (g : Group) (b : Request) → Typed (heartbeat b) → (k : Kind) → Each Q (g .members) → AllFalse (heartbeatTable g b k) → Each Q (heartbeatEffect g b k .group .members)
+-- what each member has of a group with this G: every joiner has it, every ordinary heartbeat keeps it, and it stays as G rises
+module _ (Q : ℕ → Member → Type 0) (g : Group) (stays : (e : ℕ) (m : Member) → g .epoch ≤ e → Q (g .epoch) m → Q e m)
+    (joined : (b : Request) → Typed (heartbeat b) → AllFalse (heartbeatTable g b joins) → Q (suc (g .epoch)) (joiner g b))
+    (kept : (b : Request) (e : ℕ) → Typed (heartbeat b) → AllFalse (heartbeatTable g b (ordinary e)) → Q (g .epoch) (memberAfter g (senderOf g b) b))
+    (each : Each (Q (g .epoch)) (g .members)) where
+  later : (e : ℕ) → g .epoch ≤ e → Each (Q e) (g .members)
+  later e up p m h = stays e m up (each p m h)
+
+  heartbeat-each : (b : Request) → Typed (heartbeat b) → (k : Kind) → AllFalse (heartbeatTable g b k) → Each (Q (heartbeatEffect g b k .group .epoch)) (heartbeatEffect g b k .group .members)
   unfolding heartbeatTable heartbeatEffect joinEffect joinAt leaveEffect leaveAt ordinaryAt remove changed
-  heartbeat-each g b ok joins each rows = each-put Q (g .members) (joinPlace g b) (joiner g b) (joined g b ok rows) each
-  heartbeat-each g b ok leaves each rows = each-none Q (g .members) (placeOf g (b .id)) each
-  heartbeat-each g b ok invalid each rows = absurd (true≢false (rows .0))
-  heartbeat-each g b ok (ordinary e) each rows = each-put Q (g .members) (placeOf g (b .id)) (memberAfter g (senderOf g b) b) (kept g b e ok rows each) each
+  heartbeat-each b ok joins rows = each-put (Q (suc (g .epoch))) (g .members) (joinPlace g b) (joiner g b) (joined b ok rows) (later _ (heartbeat-rises g b joins .epoch))
+  heartbeat-each b ok leaves rows = each-none (Q (raised (g .epoch))) (g .members) (placeOf g (b .id)) (later _ (heartbeat-rises g b leaves .epoch))
+  heartbeat-each b ok invalid rows = absurd (true≢false (rows .0))
+  heartbeat-each b ok (ordinary e) rows =
+      let up = heartbeat-rises g b (ordinary e) .epoch in
+      each-put (Q (groupEpochAfter g (senderOf g b) b)) (g .members) (placeOf g (b .id)) (memberAfter g (senderOf g b) b) (stays _ _ up (kept b e ok rows)) (later _ up)
 
-  effect-each : (g : Group) (e : Event) → Typed e → Each Q (g .members) → AllFalse (table g e) → Each Q (effect g e .group .members)
-  unfolding table effect sweepEffect sweepOf changed topicEffect withTopic installEffect withTarget
-  effect-each g (heartbeat b) ok each rows = heartbeat-each g b ok (kindOf (b .epoch)) each (rows .1)
-  effect-each g (sweep tick) ok each rows = each-removed Q (overduePlaces g tick) g each
-  effect-each g (topic t id n) ok each rows = each
-  effect-each g (install e entries) ok each rows = each
+  pub effect-each : (e : Event) → Typed e → AllFalse (table g e) → Each (Q (effect g e .group .epoch)) (effect g e .group .members)
+  unfolding table effect sweepEffect sweepOf changed remove topicEffect topicEpoch withTopic installEffect withTarget
+  effect-each (heartbeat b) ok rows = heartbeat-each b ok (kindOf (b .epoch)) (rows .1)
+  effect-each (sweep tick) ok rows =
+      let gone = overduePlaces g tick in
+      removed-keep (λ h. Each (Q (sweepEpoch g gone)) (h .members)) (λ h p. each-none (Q (sweepEpoch g gone)) (h .members) p) gone g (later _ (sweep-next g gone .0))
+  effect-each (topic t id n) ok rows = later _ (next-if (topicRaises g t n) (g .epoch) .0)
+  effect-each (install e entries) ok rows = each
 
-  pub members-have : (g : Group) → Reached g → Each Q (g .members)
-  unfolding fresh
-  members-have = reached-has (λ g. Each Q (g .members)) (λ tick. each-absent Q maxMembers) effect-each
+-- what every joiner has, every ordinary heartbeat keeps and no tick matters to, each member of a reached group has
+pub members-have : (Q : Member → Type 0) → ((g : Group) (b : Request) → Typed (heartbeat b) → AllFalse (heartbeatTable g b joins) → Q (joiner g b))
+    → ((g : Group) (b : Request) (e : ℕ) → Typed (heartbeat b) → AllFalse (heartbeatTable g b (ordinary e)) → Each Q (g .members) → Q (memberAfter g (senderOf g b) b))
+    → ((t : ℕ) (m : Member) → Q m → Q (timed t m))
+    → (g : Group) → Reached g → Each Q (g .members)
+unfolding fresh retimed
+members-have Q joined kept any =
+    reached-has (λ g. Each Q (g .members)) (λ tick. each-absent Q maxMembers)
+    (λ g e ok each rows. effect-each (λ _. Q) g (λ _ _ _ h. h) (joined g) (λ b e typed rows. kept g b e typed rows each) each e ok rows)
+    (λ t g each. each-retimed Q t (g .members) (any t) each)

@@ -166,7 +166,7 @@ enough [] = omega arith
 enough (r ∷ rs) = simp length-append (omega (arith, some-byte r, enough rs))
 
 -- the records that `Proper` allows are read back from their bytes
-read-written : (rs : List Record) → AllProper rs → readAll (allBytes rs) ≡ some rs
+pub read-written : (rs : List Record) → AllProper rs → readAll (allBytes rs) ≡ some rs
 unfolding readAll
 read-written rs p = records-read rs (length (allBytes rs)) (enough rs) p
 

@@ -49,7 +49,8 @@ removed-kept f (suc k) n g h =
     there : (p : ℕ) → suc n ≤ p → f p ≡ true → vacant (getD (remove g n .members) p none) ≡ false
     there p l e = ap vacant (getD-set-other (g .members) n p none none (λ q. omega arith)) ∙ h p (omega arith) e
 
-is-there : (o : Option Member) (tick : ℕ) (w : Bool) → due tick w o ≡ true → vacant o ≡ false
+-- who is due is there
+pub is-there : (o : Option Member) (tick : ℕ) (w : Bool) → due tick w o ≡ true → vacant o ≡ false
 unfolding due vacant
 is-there none tick w e = absurd (false≢true e)
 is-there (some m) tick w e = refl

@@ -1,5 +1,5 @@
--- No slot is in the sets of two IDs, after every list of events: every event keeps it true that the ledger names the members at their places, and that the
--- holder of each slot of an ID's set is the member with this ID (`Inv`).
+-- No slot is in the sets of two IDs, after every list of events and readings: each keeps it true that the ledger names the members at their places, and that
+-- the holder of each slot of an ID's set is the member with this ID (`Inv`).
 use Prim.Native.Nat.{ℕ, _<_}
 use native.Mathlib.Omega.{arith}
 use mathlib.Core.Path.{_≡_, refl, sym, ap, _∙_, subst}
@@ -7,7 +7,7 @@ use mathlib.Core.Logic.{_≢_, _⊎_, inl, inr}
 use mathlib.Core.Bool.{Bool, true, false, not, _&&_, true≢false, false≢true}
 use mathlib.Core.List.{List, [], _∷_, _++_, map, foldl, append-assoc, List·Memᴰ, List·Memᴰ·not-nil, List·Memᴰ·append-cases}
 use mathlib.Core.Option.{Option, none, some}
-use lib.ListN.{length, getD, set, take, replicate, length-set}
+use lib.ListN.{length, getD, set, take, replicate, length-map, length-set}
 use lib.Seq.{getD-set-same, getD-set-other}
 use lib.Dec.{eqb}
 use borrow.Author.Tests.{eqb-true, eq-eqb, ne-eqb}
@@ -21,15 +21,20 @@ use Rattle.rules.specs.Refusals.{Kind, heartbeatTable, invalid, joins, kindOf, 
 use Rattle.rules.specs.Effects.{Effect, advanced, changed, effect, frees, goneRecords, heartbeatEffect, installEffect, installRecords, joinAt, joinEffect, joinPlace, joinRecords, joiner, leaveAt, leaveEffect, memberAfter, metadataOf, onlyIf, ordinaryAt, overduePlaces, removalRecords, remove, slotsAfter, sweepEffect, sweepEpoch, sweepOf, sweepRecords, topicEffect, vacated, withTarget, withTopic}
 use Rattle.rules.specs.Step.{carryOut, overlay}
 use Rattle.rules.specs.Ledger.{Ledger, Observation, afterAccepted, afterHeartbeat, dropped, emptyLedger, forget, forgetName, gone, named, naming, reckon, recordsIn, setName, setWork, slotsTold}
-use Rattle.rules.specs.Course.{Call, Course, SingleHolder, Typed, courseAfter, begun, next, noHistory, observe, seenOf, stepped}
+use Rattle.rules.specs.Course.{Call, Course, HeldByOne, History, SingleHolder, Typed, begun, noHistory, observe, seenOf, stepped}
+use Rattle.rules.specs.Batches.{retimed, retimedMember}
+use Rattle.rules.specs.Readings.{Item, ItemTyped, Passage, SingleHolderOver, happens, nextPassage, observeTold, observeUnsent, passageAfter, reads, started}
 use Rattle.rules.proofs.Lists.{and-true, any-at, any-mem, find-holds, find-lt, not-is-false, not-is-true, same-eq, same-ne, same-refl}
 use Rattle.theorems.proofs.Cases.{by-cases, eq-cases, if-cases, if-not, no-some, none-not, some-inj}
 use Rattle.theorems.proofs.Picks.{blank-at, find-first, none-set, passes, some-lt}
 use Rattle.theorems.proofs.Accepting.{AllFalse, step-cases}
-use Rattle.theorems.proofs.Reaching.{course-keeps}
+use Rattle.theorems.proofs.Retimed.{getD-retimed}
+use Rattle.theorems.proofs.Reaching.{items-keep}
+use Rattle.theorems.proofs.Answered.{answered, course-answered, typed-answered}
 use Rattle.theorems.proofs.ReadBack.{AllProper, join-proper, overlaid, proper-append, proper-epoch, proper-removals, records-stored}
 use Rattle.theorems.proofs.Slots.{not-revoking, of-assigned, vacated-other}
 use Rattle.theorems.proofs.Moves.{at-vacated, holder-advanced, holderIn, same-retargeted}
+use Rattle.theorems.proofs.Unsent.{unsent-less}
 
 -- ---- the invariant
 
@@ -255,8 +260,10 @@ unfolding onlyIf named partsOf
 names-place true t m rs = refl
 names-place false t m rs = refl
 
-rename : {W : List ℕ → List ℕ} {N N′ : ℕ → Option (List ℕ)} {ms : List (Option Member)} {ss : List SlotState} → Inv W N ms ss → ((q : ℕ) → N′ q ≡ N q) → Inv W N′ ms ss
-rename v e = record { sized = v .sized; names = λ q. e q ∙ v .names q; distinct = v .distinct; holds = v .holds }
+-- fewer slots in the sets, and the same names
+fewer-inv : {W W′ : List ℕ → List ℕ} {N N′ : ℕ → Option (List ℕ)} {ms : List (Option Member)} {ss : List SlotState} → Inv W N ms ss
+    → ((i : List ℕ) (s : ℕ) → List·Memᴰ s (W′ i) → List·Memᴰ s (W i)) → ((q : ℕ) → N′ q ≡ N q) → Inv W′ N′ ms ss
+fewer-inv v sets names = record { sized = v .sized; names = λ q. names q ∙ v .names q; distinct = v .distinct; holds = λ i s h. v .holds i s (sets i s h) }
 
 drop-own : (id : List ℕ) (o : Option (List ℕ)) → o ≡ some id → dropped id o ≡ none
 unfolding dropped
@@ -348,9 +355,10 @@ module _ (l : Ledger) (g : Group) (v : InvG l g) (b : Request) (long : length (b
       let p = placeOf g (b .id) in
       let here : idIn (g .members) p ≡ some (b .id) = known-id g (b .id) (not-is-false (known g (b .id)) (rows .1 .0)) in
       let there : l .name p ≡ some (b .id) = v .names p ∙ here in
-      rename
+      fewer-inv
       (subst (λ (o : Option (List ℕ)). Inv (forgetName (l .worksOn) o) (setName (l .name) p none) (set (g .members) p none) (map (vacated p) (g .slots))) there
       (remove-inv v p))
+      (λ i s h. h)
       (λ q. eq-cases p q
       (λ e. drop-own (b .id) (l .name q) (ap (l .name) (sym e) ∙ there) ∙ sym (set-name-same (l .name) p q none e))
       (λ e. drop-other (b .id) (l .name q) (λ f. e (v .distinct p q (b .id) here (sym (v .names q) ∙ f))) ∙ sym (set-name-other (l .name) p q none e)))
@@ -373,7 +381,7 @@ unfolding goneRecords gone onlyIf partsOf
 gone-one p true = refl
 gone-one p false = refl
 
-gone-removals : (g : Group) (ps : List ℕ) (c : Bool) (e : ℕ) → gone (concatMap (removalRecords (g .slots)) ps ++ onlyIf c (groupEpoch e)) ≡ ps
+pub gone-removals : (g : Group) (ps : List ℕ) (c : Bool) (e : ℕ) → gone (concatMap (removalRecords (g .slots)) ps ++ onlyIf c (groupEpoch e)) ≡ ps
 unfolding gone onlyIf partsOf removalRecords
 gone-removals g [] true e = refl
 gone-removals g [] false e = refl
@@ -419,13 +427,54 @@ turn-inv l g t ok v =
     step-cases g (t .event) (t .buffer) (t .list) (λ s. InvG (reckon l (seenOf (t .event) s)) (s .group))
     (λ r. v) (λ _ rows. accepted l g (t .event) (t .buffer) (t .list) ok v rows)
 
-abbrev InvC : Course → Type 0
-InvC c = InvG (c .history .ledger) (c .group)
+-- ---- lost answers, and readings
 
-next-inv : (c : Course) (t : Call) → Typed (t .event) → InvC c → InvC (next c t)
-unfolding next observe
-next-inv c t ok v = turn-inv (c .history .ledger) (c .group) t ok v
+pub told-inv : (told : Bool) (h : History) (o : Observation) (g : Group) → InvG (reckon (h .ledger) o) g → InvG (observeTold told h o .ledger) g
+unfolding observeTold observe observeUnsent
+told-inv true h o g v = v
+told-inv false h o g v = let e = unsent-less (h .ledger) o in fewer-inv v (e .sets) (e .names)
 
+id-retimed : (t : ℕ) (o : Option Member) → idOf (retimedMember t o) ≡ idOf o
+unfolding retimedMember
+id-retimed t none = refl
+id-retimed t (some m) = refl
+
+pub ids-retimed : (t : ℕ) (ms : List (Option Member)) (p : ℕ) → idIn (map (retimedMember t) ms) p ≡ idIn ms p
+unfolding idIn
+ids-retimed t ms p = ap idOf (getD-retimed t ms p) ∙ id-retimed t (getD ms p none)
+
+pub retimed-inv : (t : ℕ) (l : Ledger) (g : Group) → InvG l g → InvG l (retimed t g)
+unfolding retimed
+retimed-inv t l g v =
+    let same-id = ids-retimed t (g .members) in
+    record {
+      sized = length-map (g .members) (retimedMember t) ∙ v .sized;
+      names = λ p. v .names p ∙ sym (same-id p);
+      distinct = λ p q i a b. v .distinct p q i (sym (same-id p) ∙ a) (sym (same-id q) ∙ b);
+      holds = λ i s h. same-id (holderIn (g .slots) s) ∙ v .holds i s h;
+    }
+
+-- ---- every item, and every list of them
+
+abbrev InvP : Passage → Type 0
+InvP c = InvG (c .course .history .ledger) (c .course .group)
+
+next-inv : (c : Passage) (i : Item) → ItemTyped i → InvP c → InvP (nextPassage c i)
+unfolding nextPassage
+next-inv c (happens t told) ok v =
+    let k = c .course in
+    told-inv told (k .history) _ (stepped (k .group) t .group) (turn-inv (k .history .ledger) (k .group) t ok v)
+next-inv c (reads t) ok v = retimed-inv t (c .course .history .ledger) (c .course .group) v
+
+pub single-holder-over : (tick : ℕ) → SingleHolderOver (fresh tick)
+unfolding SingleHolderOver passageAfter started begun noHistory
+single-holder-over tick is ok =
+    let c = started (fresh tick) in
+    inv-single _ (passageAfter c is .course .group) (items-keep nextPassage InvP next-inv is c ok (fresh-inv tick))
+
+-- where the items are calls
 pub single-holder : (tick : ℕ) → SingleHolder (fresh tick)
-unfolding SingleHolder begun noHistory
-single-holder tick ts ok = inv-single _ (courseAfter (begun (fresh tick)) ts .group) (course-keeps InvC next-inv ts (begun (fresh tick)) ok (fresh-inv tick))
+unfolding SingleHolder SingleHolderOver started
+single-holder tick ts ok =
+    subst (λ (c : Course). HeldByOne (c .history .ledger)) (course-answered ts (started (fresh tick)))
+    (single-holder-over tick (answered ts) (typed-answered ts ok))

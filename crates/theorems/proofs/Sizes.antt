@@ -1,4 +1,4 @@
--- No event of a reached group stores more than `batchLimit` bytes, nor tells more than `slotCount` slots. A number takes a byte for each seven bits, so that
+-- No event of a legible group, as every reached one is, stores more than `batchLimit` bytes, nor tells more than `slotCount` slots. A number takes a byte for each seven bits, so that
 -- a place takes one, a slot or the size of a set two, an epoch five. A slot is in A or in P of one place, and in the target of one place: so all the sets
 -- that one event stores have at most `slotCount` elements together.
 use Prim.Native.Nat.{ℕ, zero, suc, _+_, _-_, _*_, _/_, _≤_, _<_}
@@ -7,6 +7,7 @@ use mathlib.Core.Path.{_≡_, refl, _∙_}
 use mathlib.Core.Logic.{⊎-elim}
 use mathlib.Core.Bool.{Bool, true, false, _&&_, _||_, true≢false}
 use mathlib.Core.List.{List, [], _∷_, _++_}
+use mathlib.Core.Option.{none}
 use lib.ListN.{length, length-append}
 use lib.Dec.{eqb, ltb}
 use borrow.Author.Tests.{eqb-true, lt-ltb, ltb-true, ne-eqb}
@@ -15,21 +16,21 @@ use Rattle.rules.specs.Constants.{batchLimit, idLength, lastEpoch, maxMembers, 
 use Rattle.rules.specs.Group.{Group, SlotState, assigned, isMember, known, placeOf, revoking, setA, setM, setP, targeted}
 use Rattle.rules.specs.Records.{CurrentAssignment, MemberMetadata, Record, TargetAssignment, TopicMetadata, allBytes, bytesOf, currentGone, currentIs, differences, groupEpoch, groups, memberGone, memberIs, number, setBytes, targetEpoch, targetIs, topicIs}
 use Rattle.rules.specs.Event.{Event, Request, heartbeat, install, sweep, topic}
-use Rattle.rules.specs.Refusals.{Kind, heartbeatTable, invalid, isSlotSet, joins, kindOf, leaves, ordinary, senderOf, table}
+use Rattle.rules.specs.Refusals.{Kind, firstOf, heartbeatTable, invalid, isSlotSet, joins, kindOf, leaves, ordinary, senderOf, table}
 use Rattle.rules.specs.Effects.{changed, currentAfter, currentOf, effect, epochAfter, goneRecords, heartbeatEffect, installEffect, installRecords, joinAt, joinEffect, joinPlace, joinRecords, joinedAt, joiner, leaveAt, leaveEffect, leaveRecords, memberAfter, metadataOf, moves, noTarget, onlyIf, ordinaryAt, ordinaryRecords, overdue, overduePlaces, removalRecords, retargeted, slotsAfter, sweepEffect, sweepOf, sweepRecords, targetRecord, topicEffect, topicRecords, updates, withTopic, groupEpochAfter}
 use Rattle.rules.specs.Course.{Typed}
-use Rattle.rules.specs.Theorems.{BatchFits, WithinLimits, NeverRoom, Reached}
+use Rattle.rules.specs.Batches.{Legible}
+use Rattle.rules.specs.Theorems.{BatchFits, NeverRoom, WithinLimits}
 use Rattle.rules.proofs.Lists.{and-true, find-lt, not-is-false}
 use Rattle.theorems.proofs.Cases.{by-cases, if-cases}
 use Rattle.theorems.proofs.Refusing.{room-only-then}
 use Rattle.theorems.proofs.Accepting.{AllFalse, rows-false}
 use Rattle.theorems.proofs.ReadBack.{empty-set, slot-set}
 use Rattle.theorems.proofs.Moves.{length-retargeted, moves-advanced}
-use Rattle.theorems.proofs.SingleHolder.{joins-at}
-use Rattle.theorems.proofs.Reachable.{sender-epoch}
-use Rattle.theorems.proofs.Readable.{reached-inv}
-use Rattle.theorems.proofs.Bounds.{accepted-last, heartbeat-last, joiner-in-range, member-after-in-range, reached-in-range, reached-last, reached-members, reached-slots}
+use Rattle.theorems.proofs.SingleHolder.{join-place}
 use Rattle.theorems.proofs.Untouched.{good-topic}
+use Rattle.theorems.proofs.Bounds.{accepted-last, heartbeat-last, joiner-in-range}
+use Rattle.theorems.proofs.Legible.{legible-reached, sender-stays-in-range}
 
 -- ---- numbers
 
@@ -83,7 +84,7 @@ set-size s h l =
 -- ---- how many pass a test
 
 module _ {A : Type 0} where
-  indices-size : (f : A → Bool) (n : ℕ) (l : List A) → length (indices f n l) ≤ length l
+  pub indices-size : (f : A → Bool) (n : ℕ) (l : List A) → length (indices f n l) ≤ length l
   indices-size f n [] = omega arith
   indices-size f n (x ∷ xs) =
       let h = indices-size f (suc n) xs in
@@ -284,56 +285,55 @@ install-size before after e w l =
 
 -- ---- every accepted event
 
-known-place : (g : Group) (id : List ℕ) → length (g .members) ≡ maxMembers → known g id ≡ true → placeOf g id < maxMembers
+pub known-place : (g : Group) (id : List ℕ) → length (g .members) ≡ maxMembers → known g id ≡ true → placeOf g id < maxMembers
 unfolding known placeOf
 known-place g id sized e = omega (arith, find-lt (isMember id) (g .members) e)
 
-module _ (g : Group) (r : Reached g) where
+module _ (g : Group) (v : Legible g) where
   heartbeat-fits : (b : Request) → Typed (heartbeat b) → (k : Kind) → AllFalse (heartbeatTable g b k) → WithinLimits (heartbeatEffect g b k)
-  unfolding heartbeatEffect joinEffect joinAt joiner metadataOf leaveEffect leaveAt ordinaryAt currentAfter memberAfter epochAfter slotsAfter setA heartbeatTable changed
+  unfolding heartbeatEffect joinEffect joinAt joiner metadataOf leaveEffect leaveAt ordinaryAt currentAfter memberAfter slotsAfter setA heartbeatTable changed
   heartbeat-fits b typed joins rows =
-      let h = reached-inv g r in
-      let v = joiner-in-range g b (rows .0) (typed .1) in
-      let p = joins-at (h .0 .ledger) g (h .1 .inv) b (rows .1 .0) .inside in
+      let range = joiner-in-range g b (rows .0) (typed .1) in
       record {
-        records = join-size _ (metadataOf (joinPlace g b) (joiner g b)) _ (omega (arith, reached-members g r)) (typed .0) (v .timeout) (v .subscription) (heartbeat-last g (reached-last g r) b joins rows) .size;
+        records = join-size _ (metadataOf (joinPlace g b) (joiner g b)) _ (omega (arith, join-place g b (rows .1 .0) .inside, v .places)) (typed .0)
+            (range .timeout) (range .subscription) (heartbeat-last g (v .last) b joins rows) .size;
         told = omega arith;
       }
   heartbeat-fits b typed leaves rows = record {
-    records = leave-size (placeOf g (b .id)) _ _ _ (known-place g (b .id) (reached-members g r) (not-is-false (known g (b .id)) (rows .1 .0))) (heartbeat-last g (reached-last g r) b leaves rows) .size;
+    records = leave-size (placeOf g (b .id)) _ _ _ (known-place g (b .id) (v .places) (not-is-false (known g (b .id)) (rows .1 .0))) (heartbeat-last g (v .last) b leaves rows) .size;
     told = omega arith;
   }
   heartbeat-fits b typed invalid rows = absurd (true≢false (rows .0))
   heartbeat-fits b typed (ordinary e) rows =
-      let p = placeOf g (b .id) in
-      let here = not-is-false (known g (b .id)) (rows .1 .0) in
-      let h = reached-inv g r in
-      let epochs = sender-epoch (h .0) g (h .1) b here in
-      let wide : length (slotsAfter g (senderOf g b) b) ≡ slotCount = moves-advanced p (g .slots) (b .owned) .long ∙ reached-slots g r in
-      let place = known-place g (b .id) (reached-members g r) here in
-      let range = member-after-in-range g b (rows .0) (typed .1) (reached-in-range g r) in
+      let s = senderOf g b in
+      let wide : length (slotsAfter g s b) ≡ slotCount = moves-advanced (s .place) (g .slots) (b .owned) .long ∙ v .wide in
+      let place = known-place g (b .id) (v .places) (not-is-false (known g (b .id)) (rows .1 .0)) in
+      let range = sender-stays-in-range g v b e typed rows in
       record {
-        records = ordinary-size _ (metadataOf p (memberAfter g (senderOf g b) b)) _ (groupEpochAfter g (senderOf g b) b) _ p (epochAfter g (senderOf g b) b) (slotsAfter g (senderOf g b) b)
-            place (typed .0) (range .timeout) (range .subscription) (heartbeat-last g (reached-last g r) b (ordinary e) rows) place (omega (arith, epochs .1, reached-last g r)) wide .size;
-        told = omega (arith, indices-size (assigned p) 0 (slotsAfter g (senderOf g b) b));
+        records = ordinary-size _ (metadataOf (s .place) (memberAfter g s b)) _ (groupEpochAfter g s b) _ (s .place) (epochAfter g s b) (slotsAfter g s b)
+            place (typed .0) (range .timeout) (range .subscription) (heartbeat-last g (v .last) b (ordinary e) rows) place (omega (arith, range .epoch, v .last)) wide .size;
+        told = omega (arith, indices-size (assigned (s .place)) 0 (slotsAfter g s b));
       }
 
-  accepted-fits : (e : Event) → Typed e → AllFalse (table g e) → WithinLimits (effect g e)
+  pub effect-fits : (e : Event) → Typed e → AllFalse (table g e) → WithinLimits (effect g e)
   unfolding effect table sweepEffect sweepOf topicEffect withTopic installEffect
-  accepted-fits (heartbeat b) typed rows = heartbeat-fits b typed (kindOf (b .epoch)) (rows .1)
-  accepted-fits (sweep tick) typed rows = record { records = sweep-size g tick (accepted-last g (sweep tick) (reached-last g r) rows) .size; told = omega arith }
-  accepted-fits (topic t id n) typed rows =
+  effect-fits (heartbeat b) typed rows = heartbeat-fits b typed (kindOf (b .epoch)) (rows .1)
+  effect-fits (sweep tick) typed rows = record { records = sweep-size g tick (accepted-last g (sweep tick) (v .last) rows) .size; told = omega arith }
+  effect-fits (topic t id n) typed rows =
       let good = good-topic g t n id (rows .0) in
-      record { records = topic-records-size _ (record { number = t; id = id; count = n }) _ _ (good .number) typed (good .most) (accepted-last g (topic t id n) (reached-last g r) rows) .size; told = omega arith }
-  accepted-fits (install e entries) typed rows = record {
-    records = install-size (g .slots) (retargeted (g .slots) entries) (g .epoch) (omega (arith, length-retargeted (g .slots) entries, reached-slots g r)) (reached-last g r) .size;
+      record { records = topic-records-size _ (record { number = t; id = id; count = n }) _ _ (good .number) typed (good .most) (accepted-last g (topic t id n) (v .last) rows) .size; told = omega arith }
+  effect-fits (install e entries) typed rows = record {
+    records = install-size (g .slots) (retargeted (g .slots) entries) (g .epoch) (omega (arith, length-retargeted (g .slots) entries, v .wide)) (v .last) .size;
     told = omega arith;
   }
 
 -- ---- the theorems
 
+pub accepted-fits : (g : Group) (e : Event) → firstOf (table g e) ≡ none → Typed e → Legible g → WithinLimits (effect g e)
+accepted-fits g e rows typed v = effect-fits g v e typed (rows-false g e rows)
+
 pub batch-fits : BatchFits
-batch-fits g r e typed h = accepted-fits g r e typed (rows-false g e h)
+batch-fits g r e typed rows = accepted-fits g e rows typed (legible-reached g r)
 
 pub never-room : NeverRoom
 never-room g r e typed buffer list roomy wide h =

@@ -1,26 +1,27 @@
 -- What accepted topics and installs leave, and what they leave alone; a topic with the count that it has changes nothing.
-use Prim.Native.Nat.{ℕ, suc, _<_, _≤_}
+use Prim.Native.Nat.{ℕ, suc, _+_, _<_, _≤_}
 use native.Mathlib.Omega.{arith}
 use mathlib.Core.Path.{_≡_, refl, sym, ap, _∙_}
 use mathlib.Core.Logic.{_≢_, _⊎_, inl, inr}
 use mathlib.Core.Bool.{Bool, true, false, not, _&&_, true≢false}
 use mathlib.Core.List.{List}
 use mathlib.Core.Option.{Option, none, some}
-use lib.ListN.{length, getD, set}
+use lib.ListN.{length, getD, set, List·getD-eq-default}
 use lib.Seq.{getD-set-other, getD-set-same, set-getD}
 use lib.Dec.{eqb, leb, ltb}
-use borrow.Author.Tests.{eq-eqb, eqb-false, eqb-true, leb-false, ltb-false}
-use Rattle.rules.specs.Basics.{any, if_then_else_, same}
-use Rattle.rules.specs.Constants.{maxPartitions, slotCount, topicCount}
-use Rattle.rules.specs.Group.{Group, Topic, assigned, revoking, subscribes, targeted}
+use borrow.Author.Tests.{eq-eqb, eqb-false, eqb-true, leb-false, ltb-false, ltb-true, ne-eqb}
+use Rattle.rules.specs.Basics.{any, firstWith, if_then_else_, same}
+use Rattle.rules.specs.Constants.{maxPartitions, noPlace, slotCount, topicCount}
+use Rattle.rules.specs.Group.{Group, Topic, assigned, exists, revoking, subscribes, targeted}
 use Rattle.rules.specs.Records.{allBytes}
 use Rattle.rules.specs.Event.{install, topic}
-use Rattle.rules.specs.Refusals.{allows, countChanges, hasId, table, topicBad, topicChanges, topicRaises, zeroId}
+use Rattle.rules.specs.Refusals.{allows, badEntry, countChanges, firstBad, hasId, table, topicBad, topicChanges, topicRaises, zeroId}
 use Rattle.rules.specs.Effects.{effect, installEffect, onlyIf, topicEffect, topicEpoch, topicRecords, withTarget, withTopic}
 use Rattle.rules.specs.Step.{carryOut, overlay}
 use Rattle.rules.specs.Accepted.{AcceptedInstall, AcceptedTopic, AfterInstall, AfterTopic, SameCount}
 use Rattle.rules.proofs.Lists.{and-true, not-is-false, or-false, same-eq}
 use Rattle.theorems.proofs.Cases.{by-cases}
+use Rattle.theorems.proofs.Picks.{none-fails}
 use Rattle.theorems.proofs.Accepting.{carried, no-row, after-accepted}
 use Rattle.theorems.proofs.Moves.{A-retargeted, M-retargeted, P-retargeted}
 
@@ -62,7 +63,7 @@ module _ (g : Group) (t n : ℕ) (id : List ℕ) where
   made = set (g .topics) t (some (record { id = id; count = n }))
 
   -- nothing changes where the topic has that count, and only there
-  same-topic : allows id n (getD (g .topics) t none) ≡ true → (k : Topic) → getD (g .topics) t none ≡ some k → k .count ≡ n → made ≡ g .topics
+  pub same-topic : allows id n (getD (g .topics) t none) ≡ true → (k : Topic) → getD (g .topics) t none ≡ some k → k .count ≡ n → made ≡ g .topics
   same-topic ok k h e =
       let own = own-id (getD (g .topics) t none) n id k ok h in
       let known : getD (g .topics) t none ≡ some (record { id = id; count = n }) = h ∙ (λ i. some (record { id = own i; count = e i })) in
@@ -72,7 +73,7 @@ module _ (g : Group) (t n : ℕ) (id : List ℕ) where
   unfolding topicChanges countChanges
   no-change k h e = ap (countChanges n) h ∙ ap not (eq-eqb (k .count) n e)
 
-  not-changed : topicChanges g t n ≡ false → (k : Topic) × (getD (g .topics) t none ≡ some k) × (k .count ≡ n)
+  pub not-changed : topicChanges g t n ≡ false → (k : Topic) × (getD (g .topics) t none ≡ some k) × (k .count ≡ n)
   unfolding topicChanges countChanges
   not-changed e = pick (getD (g .topics) t none) e
     where
@@ -115,6 +116,26 @@ same-count g t n id k buffer list h e accepted =
     carried g (topic t id n) buffer list accepted ∙ rw (no-change g t n id k h e, same-topic g t n id (good .allowed) k h e) refl
 
 -- ---- install
+
+-- an entry for a place with no member is bad
+vacant-bad : (g : Group) (s p : ℕ) → p ≢ noPlace → getD (g .members) p none ≡ none → badEntry g s p ≡ true
+unfolding badEntry subscribes
+vacant-bad g s p h n = by-cases (exists g s) (λ e. rw (ne-eqb p noPlace h, e, n) refl) (λ e. rw (ne-eqb p noPlace h, e) refl)
+
+-- where no entry is refused, each names a place with a member, or none
+module _ (g : Group) (entries : List ℕ) (long : length entries ≡ slotCount) (good : ltb (firstBad g entries) slotCount ≡ false) where
+  pub entry-occupied : (s p : ℕ) → p ≢ noPlace → getD entries s noPlace ≡ p → getD (g .members) p none ≢ none
+  unfolding firstBad
+  entry-occupied s p h e n = by-cases (ltb s (length entries))
+      (λ l. let fine = none-fails (badEntry g) 0 entries (omega (arith, ltb-false (firstWith (badEntry g) 0 entries) slotCount good)) noPlace s (ltb-true s (length entries) l) in
+      true≢false (sym (vacant-bad g (0 + s) p h n) ∙ ap (badEntry g (0 + s)) (sym e) ∙ fine))
+      (λ l. h (sym e ∙ List·getD-eq-default entries noPlace (ltb-false s (length entries) l)))
+
+  pub entry-placed : (s : ℕ) → getD entries s noPlace ≢ noPlace → getD entries s noPlace < length (g .members)
+  entry-placed s h =
+      let p = getD entries s noPlace in
+      by-cases (ltb p (length (g .members))) (ltb-true p (length (g .members)))
+      (λ e. absurd (entry-occupied s p h refl (List·getD-eq-default (g .members) none (ltb-false p (length (g .members)) e))))
 
 pub accepted-install : AcceptedInstall
 unfolding table effect installEffect withTarget
