@@ -14,8 +14,12 @@
  * The functions take every number. What they ask of a caller is C's own: a pointer is good for what it is
  * lent for, and NULL will do where a length is 0; the group, `records` and `list` overlap with nothing; a
  * bool is 0 or 1; and one group is used by one at a time. What is proved of a whole run is proved of a group
- * that came from pankvisolo_fresh and was changed by these functions alone. A call needs at most
- * PANKVISOLO_STACK bytes of stack.
+ * that came from pankvisolo_fresh or from a journal and was changed by these functions alone. An event needs
+ * at most PANKVISOLO_STACK bytes of stack, and what a journal needs PANKVISOLO_JOURNAL_STACK.
+ *
+ * A journal is a file from which a group is read back: PANKVISOLO_JOURNAL_HEADING, then for each event that wrote
+ * records their length, as a number in groups of seven bits, and the records. The host stores the batch of an
+ * event, and all before it, before it sends the answer; and it cuts a torn tail off before it stores again.
  *
  * Partition p of topic t is slot 64t + p. Ticks are the host's clock in milliseconds and may run over.
  */
@@ -39,8 +43,13 @@ extern "C" {
 #define PANKVISOLO_PLACES 32
 #define PANKVISOLO_SLOTS 1024
 
-/* The bytes of stack that a call needs at most; rust/pankvisolo/c/stack.c measures them. */
+/* The bytes of stack that an event needs at most, and a function of the journal; rust/pankvisolo/c/stack.c
+   measures them. */
 #define PANKVISOLO_STACK 5120
+#define PANKVISOLO_JOURNAL_STACK 20480
+
+/* What a journal begins with, without the 0 at the string's end. */
+#define PANKVISOLO_JOURNAL_HEADING "GRJ1"
 
 /* In the tables and in the entries of an install: no place. */
 #define PANKVISOLO_NO_PLACE 255
@@ -129,6 +138,31 @@ struct pankvisolo_reply {
     size_t written;    /* the bytes of records */
 };
 
+/* What a journal, or what stands in it where a length would, is found to be. */
+enum {
+    /* A journal that is right to its end. Of an extent: the bytes end here. */
+    PANKVISOLO_WHOLE = 0,
+    /* It is right so far and ends inside the heading, a length or a batch: what is left is its torn tail. */
+    PANKVISOLO_TORN = 1,
+    /* It has another heading; a length that is 0, above 4,096, unfinished after two bytes or not in fewest bytes;
+       or a batch that no event would write for the group so far. */
+    PANKVISOLO_REFUSED = 2,
+    /* Of an extent alone: a batch, all of whose bytes are there. */
+    PANKVISOLO_BATCH = 3
+};
+
+struct pankvisolo_reading {
+    uint32_t verdict; /* PANKVISOLO_WHOLE, PANKVISOLO_TORN or PANKVISOLO_REFUSED */
+    size_t end;       /* where the good part ends and the next batch is to stand; then the torn tail begins, or
+                         stands the length that is refused. 0 where the heading is cut or another */
+};
+
+struct pankvisolo_extent {
+    uint32_t verdict;
+    size_t start; /* of the records of a batch, behind their length; otherwise where it was looked */
+    size_t end;   /* of the batch; otherwise where it was looked */
+};
+
 /* Where the archive's struct has another size, this doesn't compile. */
 #define PANKVISOLO_SIZE(name, size) \
     typedef char pankvisolo_size_of_##name[sizeof(struct pankvisolo_##name) == (size) ? 1 : -1]
@@ -136,6 +170,8 @@ PANKVISOLO_SIZE(group, 4508);
 PANKVISOLO_SIZE(request, 36);
 PANKVISOLO_SIZE(id, 16);
 PANKVISOLO_SIZE(reply, 32);
+PANKVISOLO_SIZE(reading, 16);
+PANKVISOLO_SIZE(extent, 24);
 #undef PANKVISOLO_SIZE
 
 /* A group with no topics and no members. */
@@ -163,6 +199,32 @@ struct pankvisolo_reply pankvisolo_install(
     struct pankvisolo_group *group, int32_t epoch,
     const uint8_t *entries, size_t entries_length,
     uint8_t *records, size_t records_length);
+
+/* Reads a journal. The group, which is written over whatever it was, is the one after the last good batch, and
+   every tick in it is the tick of reading. */
+struct pankvisolo_reading pankvisolo_read_journal(
+    struct pankvisolo_group *group, uint32_t tick,
+    const uint8_t *bytes, size_t bytes_length);
+
+/* For a journal that is read batch by batch, from pankvisolo_fresh(tick) on: what stands at `at`, where a length
+   would. The first stands behind the heading. Beyond the end of the bytes it is PANKVISOLO_WHOLE too. */
+struct pankvisolo_extent pankvisolo_next_batch(const uint8_t *bytes, size_t bytes_length, size_t at);
+
+/* Takes the records of one batch on, and every tick becomes the tick of reading. False: no event would write
+   them for this group, and every byte of it is as it was. */
+bool pankvisolo_read_batch(
+    struct pankvisolo_group *group, uint32_t tick,
+    const uint8_t *batch, size_t batch_length);
+
+/* Writes a batch as it stands in the file, and returns its bytes: the length and the records of one event. 4,098
+   bytes are room enough for any. 0, and nothing is written: there are no records, more than 4,096 bytes of them,
+   or no room. */
+size_t pankvisolo_frame(
+    const uint8_t *records, size_t records_length,
+    uint8_t *journal, size_t journal_length);
+
+/* Writes PANKVISOLO_JOURNAL_HEADING and returns its 4 bytes; 0, and nothing is written: there is no room. */
+size_t pankvisolo_put_heading(uint8_t *journal, size_t journal_length);
 
 #ifdef __cplusplus
 }

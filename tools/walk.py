@@ -85,7 +85,7 @@ def wrapped(words, indent, gap=' ', width=150):
     return '\n'.join(lines + [line.rstrip()])
 
 
-def write(fn, callee, count, params, contract, ghosts):
+def write(fn, callee, count, params, reply, contract, ghosts):
     n, ref = 1 + len(params), next((p for p in params if p.ref), None)
     lifetimes = 1 + max([p.lifetime for p in params if hasattr(p, 'lifetime')] + [0])
     told, relation_uses = relation(contract, params, ghosts)
@@ -122,7 +122,10 @@ def write(fn, callee, count, params, contract, ghosts):
             uses[module] += [name] if name not in uses[module] else []
     dash = lambda s: s.replace('_', '-')
     unique = lambda xs: list(dict.fromkeys(xs))
+    truth = reply == 'bool'
     sub = dict(
+        REPLYUSES='use denote.Plain.{Boolean, bool-lawful}' if truth else f'use Rattle.{CRATE}.proofs.{reply} as P\nuse Rattle.{CRATE}.proofs.{reply}.Laws as PL',
+        REPLYROW='Boolean' if truth else 'P.the-row', REPLYLAWFUL='bool-lawful 𝓤 H A W' if truth else 'LL.lawful P.the-type PL.the-laws 𝓤 H A W',
         CRATE=CRATE, FN=fn, FNDASH=dash(fn), CALLEE=callee, CALLEEPATH=callee.replace('::', '.'), CALLEENAME=dash(callee).replace('::', '·'), NL=str(lifetimes), NLLESS=str(lifetimes - (2 if ref else 1)),
         SYNTAXUSE='\n'.join(unique(f'use mir.Syntax.{{{s}}}' for p in params for s in p.syntax)),
         INTUSES='\n'.join(unique(u for p in params for u in p.int_uses)),
@@ -150,7 +153,7 @@ def write(fn, callee, count, params, contract, ghosts):
       ref = {ref.name};
     }}
 ''' if ref else '',
-        READINGUSES=f'use types.Kit.{{split, join}}\nuse types.Run.{{look-raw, of-opd}}\nuse Rattle.{CRATE}.proofs.Reading.{{Behind, inner, outer, looking, looked, hands-back-kept}}' if ref else '',
+        READINGUSES=f'use types.Kit.{{split, join}}\nuse types.Run.{{look-raw, of-opd}}\nuse Rattle.{CRATE}.proofs.Behind.{{Behind, inner, outer, looking, looked, hands-back-kept}}' if ref else '',
         OPERANDS=wrapped([f'a-local ! {(2 if ref else 1) + entry(x)} refl (' for x in operands] + ['no-more !' + ')' * (len(operands) + 1)], ' ' * 8, ''),
         FREES=wrapped(['free ! $'] * next_, ' ' * 8),
     )
@@ -166,10 +169,10 @@ def write(fn, callee, count, params, contract, ghosts):
 source = open(f'crates/{CRATE}/src/lib.rt').read()
 ghosts = re.findall(r'^ghost use (.*);$', source, re.M)
 homes = {name: crate for crate, name in re.findall(r'^use (\w+)::(\w+);$', source, re.M)}
-for fn, text, contract, callee, body in re.findall(r'pub extern "C" fn (\w+)\(\s*group: &mut Group,([^)]*)\) -> Reply\s+ensures \{ λ r\. ⌜ (.*?) ⌝ \}\n\{\s+([\w:]+)\((.*?)\n\}', source, re.S):
+for fn, text, reply, contract, callee, body in re.findall(r'pub extern "C" fn (\w+)\(\s*group: &mut Group,([^)]*)\) -> (\w+)\s+ensures \{ λ r\. ⌜ (.*?) ⌝ \}\n\{\s+([\w:]+)\((.*?)\n\}', source, re.S):
     params, lifetime = [], 1
     for k, x in enumerate(x.strip() for x in text.split(',') if x.strip()):
         name, type_ = x.split(': ')
         params.append(Param(k + 1, name, type_, lifetime, homes))
         lifetime += type_.startswith('&')
-    write(fn, callee, body.count('&mut group.'), params, contract, ghosts)
+    write(fn, callee, body.count('&mut group.'), params, reply, contract, ghosts)

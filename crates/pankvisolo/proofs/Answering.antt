@@ -1,5 +1,5 @@
--- A reply has the numbers of the answer that it was made of, and a group is made of the parts that an event was lent and of the rest: so what a function of the
--- coordinator ensures is what the library's ensures.
+-- A reply has the numbers of the answer that it was made of, and a group is made of the part that an event was lent and of the rest (Resting of judging): so
+-- what a function of the coordinator ensures is what the library's ensures.
 use Prim.Native.Nat.{ℕ}
 use mathlib.Core.Path.{_≡_, refl, sym, ap, _∙_, subst}
 use mathlib.Core.List.{List}
@@ -10,61 +10,11 @@ use Rattle.rules.specs.Step.{step}
 use Rattle.rules.specs.declared.Answer.{Answer}
 use Rattle.rules.specs.declared.Answer.the-variants.{Assigned, Left, Swept, Done, Refused}
 use Rattle.group.specs.declared.Group.{Group}
-use Rattle.group.specs.View.{view, viewTopics}
-use Rattle.group.specs.Parts.{Parts, viewParts, TopicParts, Tables, viewTopicParts, TargetParts, Holding, viewTargetParts}
+use Rattle.group.specs.View.{view}
 use Rattle.events.specs.declared.Outcome.{Outcome}
 use Rattle.events.specs.Outcomes.{took, SameIfRefused, Becomes}
 use Rattle.pankvisolo.specs.declared.Reply.{Reply}
 use Rattle.pankvisolo.specs.Replies.{replied, reportOf, saidBy, Serves}
-
--- ---- the group of a part and the rest
-
-abbrev pub withTopics : List ℕ → List ℕ → Parts → Group
-withTopics ids counts p = record {
-  head = p .head;
-  members = p .members;
-  «topic_ids» = ids;
-  «topic_counts» = counts;
-  target = p .target;
-  holder = p .holder;
-  waiting = p .waiting;
-}
-
-pub view-topics : (ids counts : List ℕ) (p : Parts) → view (withTopics ids counts p) ≡ viewParts (viewTopics ids counts) p
-unfolding view viewParts
-view-topics ids counts p = refl
-
-abbrev pub withTables : Tables → TopicParts → Group
-withTables t p = record {
-  head = p .head;
-  members = p .members;
-  «topic_ids» = p .ids;
-  «topic_counts» = p .counts;
-  target = t .target;
-  holder = t .holder;
-  waiting = t .waiting;
-}
-
-pub view-tables : (t : Tables) (p : TopicParts) → view (withTables t p) ≡ viewTopicParts t p
-unfolding view viewTopicParts
-view-tables t p = refl
-
-abbrev pub withHolding : Holding → TargetParts → Group
-withHolding h p = record {
-  head = p .head;
-  members = p .members;
-  «topic_ids» = h .ids;
-  «topic_counts» = p .counts;
-  target = p .target;
-  holder = h .holder;
-  waiting = h .waiting;
-}
-
-pub view-holding : (h : Holding) (p : TargetParts) → view (withHolding h p) ≡ viewTargetParts h p
-unfolding view viewTargetParts
-view-holding h p = refl
-
--- ---- a reply
 
 -- a number that is not 0 is a refusal's
 same : (a : Answer) {A : Type 0} (x y : A) → SameIfRefused a x y → (said a .number ≡ 0 → ⊥) → y ≡ x

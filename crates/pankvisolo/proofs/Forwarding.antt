@@ -25,6 +25,7 @@ use denote.Laws.{Is, shows}
 use denote.Memory.{mem, partAt}
 use denote.Builtin.{u8, u32, bool}
 use denote.Array.{Array}
+use denote.RattleType.{RattleType}
 use denote.Ref.{RefT, MutRef}
 use denote.Steps.{peeks, heard, nothing}
 use denote.Struct.Declared.{fields}
@@ -37,10 +38,8 @@ use denote.Triple.Walked.{says}
 use Rattle.rules.specs.Constants.{topicCount, idLength, slotCount}
 use Rattle.group.specs.Columns.{cellCount}
 use Rattle.group.specs.declared.Group.{Group}
-use Rattle.pankvisolo.specs.declared.Reply.{Reply}
 use Rattle.pankvisolo.proofs.Lending as lending
 use Rattle.pankvisolo.proofs.Lending.{Names, Refs, Keeps, Lasts, WithLasts, lastsOf, restOf, lend-all, back-all}
-use Rattle.pankvisolo.proofs.Reply as P
 use Rattle.group.proofs.Group as T
 use Rattle.group.proofs.Group.Laws as T′
 
@@ -99,7 +98,7 @@ module _ {M : Type 1} (𝓤 : URA M) (H : Heap 𝓤) (A : Atoms 𝓤) (W : Given
 -- ---- an exported function
 
 -- What it has once its parameters are stored: a group behind a reference, tokens of other lifetimes, and what its other parameters own. The function that it calls
--- hands back a reply and last values of the other parameters, of which Last says that they are the last; Told is what both ensure.
+-- hands back a reply, of whatever type, and last values of the other parameters, of which Last says that they are the last; Told is what both ensure.
 pub record Forward {M : Type 1} (𝓤 : URA M) : Type 2 where
   pub lifetime : Lft
   pub share : Share
@@ -108,15 +107,17 @@ pub record Forward {M : Type 1} (𝓤 : URA M) : Type 2 where
   pub Rest : Fml
   pub Lasts : Type 0
   pub Last : Lasts → Fml
-  pub Told : Reply → Group → Lasts → Type 0
+  pub reply : RattleType
+  pub Told : reply .Denot → Group → Lasts → Type 0
 
 -- what a run hands back beside tokens: a reply and last values z, of which L says that they are the last, and Told what is ensured
-module _ {M : Type 1} (𝓤 : URA M) (H : Heap 𝓤) (A : Atoms 𝓤) (tokens : SProp 𝓤) (Z : Type 0) (L : Z → Fml) (Told : Reply → Z → Type 0) where
-  abbrev Said : Reply → Z → SProp 𝓤
+module _ {M : Type 1} (𝓤 : URA M) (H : Heap 𝓤) (A : Atoms 𝓤) (tokens : SProp 𝓤) (R : RattleType) (Z : Type 0) (L : Z → Fml)
+    (Told : R .Denot → Z → Type 0) where
+  abbrev Said : R .Denot → Z → SProp 𝓤
   Said r z = sep 𝓤 (sem 𝓤 H A (L z)) (fact 𝓤 (Told r z))
 
-  abbrev Replied : Val → Reply → SProp 𝓤
-  Replied v r = sep 𝓤 (sep 𝓤 tokens (sem 𝓤 H A (P.the-row .own r (v ∷ [])))) (ex 𝓤 (Said r))
+  abbrev Replied : Val → R .Denot → SProp 𝓤
+  Replied v r = sep 𝓤 (sep 𝓤 tokens (sem 𝓤 H A (R .own r (v ∷ [])))) (ex 𝓤 (Said r))
 
   abbrev pub Handed : Val → SProp 𝓤
   Handed v = H .⇛ (ex 𝓤 (Replied v))
@@ -172,24 +173,24 @@ module _ {M : Type 1} {𝓤 : URA M} {H : Heap 𝓤} {A : Atoms 𝓤} (W : Given
   abbrev Lent : ℕ → Names members → Ends → Fml
   Lent α γs z = Lasts members (parts z) γs (F .Last (rest z))
 
-  abbrev Ensured : Reply → Ends → Type 0
+  abbrev Ensured : F .reply .Denot → Ends → Type 0
   Ensured r z = F .Told r (grouped (parts z)) (rest z)
 
   abbrev pub Returned : ℕ → Names members → Val → SProp 𝓤
-  Returned α γs = Handed 𝓤 H A (mean 𝓤 H A (‵ (flft (α ∷ []) fullShare) ⊛ i)) Ends (Lent α γs) Ensured
+  Returned α γs = Handed 𝓤 H A (mean 𝓤 H A (‵ (flft (α ∷ []) fullShare) ⊛ i)) (F .reply) Ends (Lent α γs) Ensured
 
   -- what the function has at its end, and what it hands back
   abbrev Left : Group × F .Lasts → Fml
   Left z = fsep (fres γ (code (z .0))) (F .Last (z .1))
 
-  abbrev pub Ended : Reply → Val → Group → F .Lasts → Item 𝓤
-  Ended r v g w = ((‵ (flft κ q) ⊛ i) ⊛ ‵ (P.the-row .own r (v ∷ []))) ⊛ ‵ (Left (g, w))
+  abbrev pub Ended : F .reply .Denot → Val → Group → F .Lasts → Item 𝓤
+  Ended r v g w = ((‵ (flft κ q) ⊛ i) ⊛ ‵ ((F .reply) .own r (v ∷ []))) ⊛ ‵ (Left (g, w))
 
-  abbrev Ensures : Reply → Group × F .Lasts → Type 0
+  abbrev Ensures : F .reply .Denot → Group × F .Lasts → Type 0
   Ensures r z = F .Told r (z .0) (z .1)
 
   abbrev pub Result : Val → SProp 𝓤
-  Result = Handed 𝓤 H A (mean 𝓤 H A (‵ (flft κ q) ⊛ i)) (Group × F .Lasts) Left Ensures
+  Result = Handed 𝓤 H A (mean 𝓤 H A (‵ (flft κ q) ⊛ i)) (F .reply) (Group × F .Lasts) Left Ensures
 
   module _ {K : Type 0} {Γ : List (Item 𝓤)} {G : Goal 𝓤 H} (t : K) (z : Soaks G) where
     lends : ((α : ℕ) (γs : Names members) → Seq K W (raw (Passed α γs) ∷ Opened α γs ∷ Γ) G) → Seq K W (Begun ∷ Γ) G
@@ -207,14 +208,14 @@ module _ {M : Type 1} {𝓤 : URA M} {H : Heap 𝓤} {A : Atoms 𝓤} (W : Given
         move t (3 ∷ 8 ∷ 1 ∷ 0 ∷ []) $ join t $ join t $ join t $ use1 W (raw (Passed α γs)) (id⊢ 𝓤 _) $
         move t (1 ∷ 2 ∷ 3 ∷ 4 ∷ 5 ∷ []) $ group t 5 $ move t (1 ∷ []) $ k α γs))
 
-    takes-back : (α : ℕ) (γs : Names members) (v : Val) → ((r : Reply) (g : Group) (w : F .Lasts) → F .Told r g w → Is P.the-row r (v ∷ []) → Seq K W (Ended r v g w ∷ Γ) G)
+    takes-back : (α : ℕ) (γs : Names members) (v : Val) → ((r : F .reply .Denot) (g : Group) (w : F .Lasts) → F .Told r g w → Is (F .reply) r (v ∷ []) → Seq K W (Ended r v g w ∷ Γ) G)
         → Seq K W (raw (Returned α γs v) ∷ Opened α γs ∷ Γ) G
     takes-back α γs v k =
-        use1 W (later (some (λ (r : Reply).
-        ((‵ (flft (α ∷ []) fullShare) ⊛ i) ⊛ ‵ (P.the-row .own r (v ∷ []))) ⊛ some (λ (y : Ends). ‵ (Lent α γs y) ⊛ raw (fact 𝓤 (Ensured r y)))))) (id⊢ 𝓤 _) $
+        use1 W (later (some (λ (r : F .reply .Denot).
+        ((‵ (flft (α ∷ []) fullShare) ⊛ i) ⊛ ‵ ((F .reply) .own r (v ∷ []))) ⊛ some (λ (y : Ends). ‵ (Lent α γs y) ⊛ raw (fact 𝓤 (Ensured r y)))))) (id⊢ 𝓤 _) $
         await t z $ pick t (λ r. split t $ move t (1 ∷ []) $ pick t (λ y. split t $ move t (1 ∷ []) $ heard t (Ensured r y) (λ e. move t (1 ∷ []) $ split t $ split t $
         -- [token of α; tokens; reply; last values; opened]
-        move t (2 ∷ []) $ peeks t P.the-row (Is P.the-row) (shows 𝓤 H A P.the-row) r (v ∷ []) (λ is.
+        move t (2 ∷ []) $ peeks t (F .reply) (Is (F .reply)) (shows 𝓤 H A (F .reply)) r (v ∷ []) (λ is.
         move t (4 ∷ []) $ split t $ move t (1 ∷ []) $ split t $ move t (1 ∷ []) $ split3 t $
         -- [open; observed; authority; way back; kept; reply; token of α; tokens; last values]
         move t (6 ∷ []) $ lft-end t z $ move t (0 ∷ 5 ∷ 8 ∷ []) $
@@ -232,15 +233,15 @@ module _ {M : Type 1} {𝓤 : URA M} {H : Heap 𝓤} {A : Atoms 𝓤} (W : Given
       (t : K) → FmC 𝓤 H (W .laws) C → (c : Contract 𝓤) → Triple 𝓤 (C f) c → (y : ℕ → Names members → c .Ghost)
       → ((α : ℕ) (γs : Names members) → Passed α γs ≡ c .pre (y α γs)) → ((α : ℕ) (γs : Names members) → c .post (y α γs) ≡ Returned α γs)
       → ((α : ℕ) (γs : Names members) → Opds K W (raw (c .pre (y α γs)) ∷ Opened α γs ∷ Γ) E xs (c .args (y α γs)))
-      → ((v : Val) (r : Reply) (g : Group) (w : F .Lasts) → F .Told r g w → Is P.the-row r (v ∷ []) → Seq K W (Ended r v g w ∷ Γ) (lands C Λ E d v rest p))
+      → ((v : Val) (r : F .reply .Denot) (g : Group) (w : F .Lasts) → F .Told r g w → Is (F .reply) r (v ∷ []) → Seq K W (Ended r v g w ∷ Γ) (lands C Λ E d v rest p))
       → Seq K W (Begun ∷ Γ) (runs C Λ E (seq (call f xs d) rest) p)
   lends-to t fm c known y gives has operands k =
       lends t tt (λ α γs. recast W (raw (c .pre (y α γs))) (gives α γs) $ calls-at t fm c known (y α γs) (operands α γs) (λ v.
       recast W (raw (Returned α γs v)) (ap (λ (Q : Val → SProp 𝓤). Q v) (has α γs)) $ takes-back t tt α γs v (k v)))
 
   -- at the end: what the contract of the function itself asks
-  pub hands-back : {K : Type 0} (t : K) {r : Reply} {v : Val} {g : Group} {w : F .Lasts} → F .Told r g w → Seq K W (Ended r v g w ∷ []) (prop (Result v))
+  pub hands-back : {K : Type 0} (t : K) {r : F .reply .Denot} {v : Val} {g : Group} {w : F .Lasts} → F .Told r g w → Seq K W (Ended r v g w ∷ []) (prop (Result v))
   hands-back t {r} {v} {g} {w} e =
       let tokens : SProp 𝓤 = mean 𝓤 H A (‵ (flft κ q) ⊛ i) in
-      updating t $ at-once t $ split t $ show t (Replied 𝓤 H A tokens (Group × F .Lasts) Left Ensures v) r $
-      frame t $ show t (Said 𝓤 H A tokens (Group × F .Lasts) Left Ensures r) (g, w) $ says t e $ done t
+      updating t $ at-once t $ split t $ show t (Replied 𝓤 H A tokens (F .reply) (Group × F .Lasts) Left Ensures v) r $
+      frame t $ show t (Said 𝓤 H A tokens (F .reply) (Group × F .Lasts) Left Ensures r) (g, w) $ says t e $ done t

@@ -2,5 +2,6 @@ pub mod Answering
 pub mod Forwarding
 pub mod Hosting
 pub mod Lending
-pub mod Reading
+pub mod Behind
 pub mod Walking
+pub mod Continuing

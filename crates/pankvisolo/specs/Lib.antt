@@ -1,4 +1,5 @@
 pub mod Replies
-pub mod Lent
+pub mod Recovery
 pub mod Decoding
 pub mod Runs
+pub mod Lives

@@ -6,7 +6,7 @@ ghost use Rattle.rules.specs.Answers.{said};
 ghost use Rattle.rules.specs.Event as E;
 ghost use Rattle.events.specs.Outcomes.{requestOf};
 ghost use Rattle.pankvisolo.specs.Replies.{saidBy, Serves};
-ghost use Rattle.pankvisolo.specs.Lent.{groupBefore, groupAfter};
+ghost use Rattle.judging.specs.Lent.{groupBefore, groupAfter};
 use crate::Id;
 use crate::Reply;
 use events::Outcome;

@@ -7,13 +7,21 @@ ghost use mathlib.Core.List.{List};
 ghost use Prim.Native.Nat.{ℕ};
 ghost use Rattle.rules.specs.Group.{fresh};
 ghost use Rattle.rules.specs.Event as E;
+ghost use Rattle.rules.specs.Journal.{heading};
+ghost use Rattle.rules.specs.Brokers.{JournalTheorems};
+ghost use Rattle.numbers.specs.Buffer.{Wrote};
+ghost use Rattle.frames.specs.Forms.{framed, ifRoom};
 ghost use Rattle.group.specs.View.{view};
 ghost use Rattle.events.specs.Outcomes.{requestOf};
 ghost use Rattle.pankvisolo.specs.Replies.{Serves};
+ghost use Rattle.judging.specs.Reads.{Reads};
 ghost use Rattle.pankvisolo.specs.Decoding.{Decodes};
+ghost use Rattle.pankvisolo.specs.Recovery.{Recovers, Stands};
 ghost use Rattle.pankvisolo.specs.Runs.{LibrarySingleHolder, LibrarySettles};
+ghost use Rattle.pankvisolo.specs.Lives.{LibraryContinues};
 
 mod lent; // lent.rt: the events over a group whose parts are all lent
+mod recovering; // recovering.rt: a journal read into such a group
 
 use events::Request;
 use group::Group;
@@ -36,6 +44,31 @@ pub struct Reply {
     pub slot: u16,
     pub written: usize,
 }
+
+// What a reading says of a journal: WHOLE, TORN or REFUSED; and where its good part ends, and the next batch is to stand: where a torn tail begins, or the offset of
+// the refusal.
+#[repr(C)]
+pub struct Reading {
+    pub verdict: u32,
+    pub end: usize,
+}
+
+pub const WHOLE: u32 = 0;
+
+pub const TORN: u32 = 1;
+
+pub const REFUSED: u32 = 2;
+
+// What stands at a place of a journal, where a length would: BATCH, and the batch from `start` to `end`; or WHOLE, if the bytes end there, TORN, if they end inside a
+// length or a batch, REFUSED, if that is no length. Then `start` and `end` are the place.
+#[repr(C)]
+pub struct Extent {
+    pub verdict: u32,
+    pub start: usize,
+    pub end: usize,
+}
+
+pub const BATCH: u32 = 3;
 
 // A group with no topics and no members. A host reads every answer off its numbers, and demand 3 holds of every run of the library from this group: no slot is
 // ever with two members, and three rounds of heartbeats settle every member on the target in force.
@@ -139,4 +172,88 @@ pub extern "C" fn pankvisolo_install(
         entries,
         records,
     )
+}
+
+// Reads a journal at a tick into the group, whatever that held. What holds of every reading is `JournalTheorems`; and brokers that run on this library, one after
+// another, have the group and the file that the rules say (`LibraryContinues`), so that demand 3 goes on over the reading.
+#[no_mangle]
+pub extern "C" fn pankvisolo_read_journal(group: &mut Group, tick: u32, bytes: &[u8]) -> Reading
+    ensures { λ r. ⌜ Recovers tick (now (bytes .entry)) (now (group .exit)) r × JournalTheorems × LibraryContinues ⌝ }
+{
+    recovering::read_journal(
+        &mut group.head,
+        &mut group.members,
+        &mut group.topic_ids,
+        &mut group.topic_counts,
+        &mut group.target,
+        &mut group.holder,
+        &mut group.waiting,
+        tick,
+        bytes,
+    )
+}
+
+// Reads one batch for the group so far. A batch that is refused leaves every byte of the group as it was.
+#[no_mangle]
+pub extern "C" fn pankvisolo_read_batch(group: &mut Group, tick: u32, batch: &[u8]) -> bool
+    ensures { λ r. ⌜ Reads r (now (group .entry)) (now (group .exit)) tick (now (batch .entry)) ⌝ }
+{
+    recovering::read_batch(
+        &mut group.head,
+        &mut group.members,
+        &mut group.topic_ids,
+        &mut group.topic_counts,
+        &mut group.target,
+        &mut group.holder,
+        &mut group.waiting,
+        tick,
+        batch,
+    )
+}
+
+// What stands at a place of a journal, where a length would.
+#[no_mangle]
+pub extern "C" fn pankvisolo_next_batch(bytes: &[u8], at: usize) -> Extent
+    ensures { λ r. ⌜ Stands (now (bytes .entry)) at r ⌝ }
+{
+    let extent = frames::read_extent(bytes, at);
+    match extent {
+        frames::Extent::Batch(start, end) => Extent {
+            verdict: BATCH,
+            start: start,
+            end: end,
+        },
+        frames::Extent::End => Extent {
+            verdict: WHOLE,
+            start: at,
+            end: at,
+        },
+        frames::Extent::Torn => Extent {
+            verdict: TORN,
+            start: at,
+            end: at,
+        },
+        frames::Extent::Bad => Extent {
+            verdict: REFUSED,
+            start: at,
+            end: at,
+        },
+    }
+}
+
+// Writes what a journal stores of an event, the length of its records and the records, and returns how many bytes that is: 0, and nothing is written, if there are
+// no records, or more than any event writes, or there is no room.
+#[no_mangle]
+pub extern "C" fn pankvisolo_frame(records: &[u8], journal: &mut [u8]) -> usize
+    ensures { λ r. ⌜ Wrote (ifRoom (framed (now (records .entry))) (now (journal .entry))) (now (journal .entry)) (now (journal .exit)) r ⌝ }
+{
+    frames::frame(records, journal)
+}
+
+// Writes the heading of a journal and returns how many bytes that is: 0, and nothing is written, if there is no room.
+#[no_mangle]
+pub extern "C" fn pankvisolo_put_heading(journal: &mut [u8]) -> usize
+    ensures { λ r. ⌜ Wrote (ifRoom heading (now (journal .entry))) (now (journal .entry)) (now (journal .exit)) r ⌝ }
+{
+    frames::put_heading(journal)
 }

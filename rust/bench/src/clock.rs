@@ -87,7 +87,8 @@ impl<C: Coordinator> Side<'_, C> {
     }
 }
 
-fn each(elapsed: Duration, calls: usize) -> f64 {
+/// The nanoseconds of one call.
+pub fn each(elapsed: Duration, calls: usize) -> f64 {
     elapsed.as_nanos() as f64 / calls as f64
 }
 

@@ -5,7 +5,9 @@
 mod clock;
 mod coordinator;
 mod event;
+mod journal;
 mod options;
+mod reading;
 mod row;
 mod scene;
 
@@ -34,6 +36,7 @@ fn main() -> ExitCode {
     match Options::of(words.into_iter()) {
         Ok(options) => {
             print_table(&options);
+            print_reading(&options);
             ExitCode::SUCCESS
         }
         Err(why) => {
@@ -50,5 +53,17 @@ fn print_table(options: &Options) {
         for &members in &options.sizes {
             println!("{}", Row::measured(kind, members, options.rounds));
         }
+    }
+}
+
+/// One member alone has nobody to move slots to.
+fn print_reading(options: &Options) {
+    let sizes = options.sizes.iter().filter(|&&members| members > 1);
+    if !reading::NAME.contains(&options.only) {
+        return;
+    }
+    println!("\n{}\n\n{}", reading::INTRODUCTION, reading::HEADING);
+    for &members in sizes {
+        println!("{}", reading::Row::measured(members, options.rounds));
     }
 }

@@ -3,10 +3,10 @@
 use crate::coordinator::{Coordinator, Lent, Outcome, Standing};
 use crate::event::{Beat, Event};
 
-const TOPICS: u8 = 16;
+pub const TOPICS: u8 = 16;
 const PARTITIONS: u32 = 64;
 const SLOTS: usize = 1_024;
-const NOBODY: u8 = 255;
+pub const NOBODY: u8 = 255;
 const ALL_TOPICS: u16 = u16::MAX;
 const REBALANCE_TIMEOUT: i32 = 300_000;
 const NOT_GIVEN: i32 = -1;
@@ -14,7 +14,7 @@ const JOINS: i32 = 0;
 const FENCED: u16 = 110;
 
 /// The tick at which the group is made and settles.
-const START: u32 = 1_000;
+pub const START: u32 = 1_000;
 /// A member heard at `START` and not since is still within its session here,
 const LATER: u32 = START + 40_000;
 /// and no longer here.
@@ -131,7 +131,7 @@ fn events_for<C: Coordinator>(kind: Kind, members: u8, group: &C) -> Vec<Event> 
             .collect()
     };
     match kind {
-        Kind::RejoinEmpty | Kind::RejoinHolding => of_each(|place, _| join(place)),
+        Kind::RejoinEmpty | Kind::RejoinHolding => of_each(|place, _| join(place, START)),
         Kind::Quiet | Kind::GivesBack | Kind::Takes => {
             of_each(|place, standing| ordinary(place, standing, START))
         }
@@ -150,7 +150,7 @@ fn joined<C: Coordinator>(members: u8) -> C {
         prepare(&mut group, &Event::Topic { number, count });
     }
     for place in 0..members {
-        prepare(&mut group, &join(place));
+        prepare(&mut group, &join(place, START));
     }
     group
 }
@@ -212,7 +212,7 @@ fn prepare<C: Coordinator>(group: &mut C, event: &Event) {
     }
 }
 
-fn standing<C: Coordinator>(group: &C, place: u8) -> Standing {
+pub fn standing<C: Coordinator>(group: &C, place: u8) -> Standing {
     match group.standing(place) {
         Some(standing) => standing,
         None => panic!("nobody is at place {place}"),
@@ -227,17 +227,17 @@ fn of_later(standing: Standing) -> Standing {
     }
 }
 
-fn join(place: u8) -> Event {
+pub fn join(place: u8, tick: u32) -> Event {
     let epoch = JOINS;
     let owned = Vec::new();
     Event::Beat(Beat {
         timeout: REBALANCE_TIMEOUT,
         subscription: Some(ALL_TOPICS),
-        ..beat(place, Standing { epoch, owned }, START)
+        ..beat(place, Standing { epoch, owned }, tick)
     })
 }
 
-fn ordinary(place: u8, standing: Standing, tick: u32) -> Event {
+pub fn ordinary(place: u8, standing: Standing, tick: u32) -> Event {
     Event::Beat(beat(place, standing, tick))
 }
 
@@ -252,7 +252,7 @@ fn beat(place: u8, standing: Standing, tick: u32) -> Beat {
     }
 }
 
-fn install<C: Coordinator>(group: &C, entries: Vec<u8>) -> Event {
+pub fn install<C: Coordinator>(group: &C, entries: Vec<u8>) -> Event {
     Event::Install {
         epoch: group.group_epoch(),
         entries,
@@ -260,13 +260,13 @@ fn install<C: Coordinator>(group: &C, entries: Vec<u8>) -> Event {
 }
 
 /// Slot by slot to each member in turn.
-fn even_target(members: u8) -> Vec<u8> {
+pub fn even_target(members: u8) -> Vec<u8> {
     let members = usize::from(members);
     (0..SLOTS).map(|slot| (slot % members) as u8).collect()
 }
 
 /// Every other slot of a member goes to the next one, or to nobody where there is one member.
-fn moved_target(members: u8) -> Vec<u8> {
+pub fn moved_target(members: u8) -> Vec<u8> {
     let turn = |slot: usize| slot / usize::from(members);
     let moved = |(slot, place): (usize, u8)| match turn(slot) % 2 {
         0 => place,

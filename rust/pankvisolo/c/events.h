@@ -1,6 +1,7 @@
 /*
- * An event of each kind on a group of 32 members, for the programs that measure what a call takes. Sixteen
- * topics of sixty-four partitions are shared evenly, and every member has its share or is to have it.
+ * An event of each kind on a group of 32 members, and the functions of the journal, for the programs that measure
+ * what a call takes. Sixteen topics of sixty-four partitions are shared evenly, and every member has its share or is
+ * to have it.
  */
 #include <string.h>
 
@@ -22,23 +23,43 @@ static uint32_t tick, topic;
 static uint8_t records[4096];
 static uint16_t list[PANKVISOLO_SLOTS];
 
-static void beat(void) {
-    reply = pankvisolo_heartbeat(&group, &request, owned, owned_count, records, sizeof records, list, PANKVISOLO_SLOTS);
+/* What the events wrote since there was a fresh group, while it is kept. */
+static bool keeps;
+static uint8_t journal[1 << 16];
+static size_t journal_length, last_batch;
+
+static void keep(void) {
+    if (!keeps || reply.written == 0) return;
+    last_batch = journal_length;
+    journal_length += pankvisolo_frame(records, reply.written, journal + journal_length, sizeof journal - journal_length);
 }
 
-static void sweep(void) { reply = pankvisolo_sweep(&group, tick, records, sizeof records); }
+static void beat(void) {
+    reply = pankvisolo_heartbeat(&group, &request, owned, owned_count, records, sizeof records, list, PANKVISOLO_SLOTS);
+    keep();
+}
+
+static void sweep(void) {
+    reply = pankvisolo_sweep(&group, tick, records, sizeof records);
+    keep();
+}
 
 static void set_topic(void) {
     struct pankvisolo_id id;
     memset(id.bytes, (int)topic + 1, sizeof id.bytes);
     reply = pankvisolo_set_topic(&group, topic, id, 64, records, sizeof records);
+    keep();
 }
 
 static void install(void) {
     reply = pankvisolo_install(&group, (int32_t)group.epoch, entries, sizeof entries, records, sizeof records);
+    keep();
 }
 
-static void make(void) { group = pankvisolo_fresh(START); }
+static void make(void) {
+    group = pankvisolo_fresh(START);
+    if (keeps) journal_length = pankvisolo_put_heading(journal, sizeof journal);
+}
 
 /* A heartbeat from a member that lists what it holds; in a fresh group each is at the place of its number. */
 static void ask(unsigned member, int32_t epoch) {
@@ -114,6 +135,40 @@ static void leaving(void) { settled(); request.epoch = -1; }
 
 static void silent(void) { settled(); tick = START + 45000; }
 
+/* A journal with a batch of every kind: a member moves its share, gives it back, leaves, and the others are swept. */
+static void kept(void) {
+    keeps = true;
+    retargeted();
+    beat();
+    ask_at_its_epoch(LAST);
+    owned_count = 0;
+    beat();
+    request.epoch = -1;
+    beat();
+    tick = START + 45000;
+    sweep();
+    keeps = false;
+}
+
+/* Its last batch is of no group but the one before it. */
+static void kept_refused(void) {
+    kept();
+    memmove(journal + 4, journal + last_batch, journal_length - last_batch);
+}
+
+static void read_journal(void) {
+    reply.number = pankvisolo_read_journal(&group, tick, journal, journal_length).verdict;
+}
+
+static void read_again(void) {
+    struct pankvisolo_extent batch = pankvisolo_next_batch(journal, journal_length, last_batch);
+    reply.number = pankvisolo_read_batch(&group, tick, journal + batch.start, batch.end - batch.start);
+}
+
+static void next_batch(void) { reply.number = pankvisolo_next_batch(journal, journal_length, last_batch).verdict; }
+
+static void frame(void) { reply.number = pankvisolo_frame(records, 4096, journal, 4098) != 4098; }
+
 static const struct event {
     const char *name;
     void (*prepare)(void);
@@ -137,3 +192,14 @@ static const struct event {
 };
 
 #define EVENTS (sizeof events / sizeof *events)
+
+/* The same of the journal. */
+static const struct event readings[] = {
+    {"reading a journal", kept, read_journal, PANKVISOLO_WHOLE},
+    {"reading a journal that is refused", kept_refused, read_journal, PANKVISOLO_REFUSED},
+    {"reading a batch that is refused", kept, read_again, false},
+    {"finding the next batch", kept, next_batch, PANKVISOLO_BATCH},
+    {"framing the largest batch", settled, frame, 0},
+};
+
+#define READINGS (sizeof readings / sizeof *readings)

@@ -42,5 +42,12 @@ int main(void) {
     FIELD(reply, count);
     FIELD(reply, slot);
     FIELD(reply, written);
+    STRUCT(reading);
+    FIELD(reading, verdict);
+    FIELD(reading, end);
+    STRUCT(extent);
+    FIELD(extent, verdict);
+    FIELD(extent, start);
+    FIELD(extent, end);
     return 0;
 }

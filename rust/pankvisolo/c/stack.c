@@ -1,5 +1,6 @@
 /*
- * Measures how much stack one call of each event takes, and fails where one takes more than the header says.
+ * Measures how much stack one call of each event and of each function of the journal takes, and fails where one
+ * takes more than the header says.
  * Each runs on a thread whose stack is memory of this program: what lies below the thread's own frame is
  * painted before the call and looked at after it. See docs/BENCHMARKS.md.
  */
@@ -43,17 +44,21 @@ static size_t taken_by(struct event event) {
     return taken;
 }
 
-int main(void) {
+static int measure_all(const struct event *all, size_t length, size_t allowed) {
     size_t most = 0;
-    for (size_t i = 0; i < EVENTS; i++) {
-        size_t bytes = taken_by(events[i]);
-        printf("%s: %zu bytes\n", events[i].name, bytes);
-        if (bytes == 0 || reply.number != events[i].number) {
+    for (size_t i = 0; i < length; i++) {
+        size_t bytes = taken_by(all[i]);
+        printf("%s: %zu bytes\n", all[i].name, bytes);
+        if (bytes == 0 || reply.number != all[i].number) {
             printf("  answered %u\n", (unsigned)reply.number);
             return 1;
         }
         if (bytes > most) most = bytes;
     }
     printf("at most: %zu bytes\n", most);
-    return most > PANKVISOLO_STACK;
+    return most > allowed;
+}
+
+int main(void) {
+    return measure_all(events, EVENTS, PANKVISOLO_STACK) || measure_all(readings, READINGS, PANKVISOLO_JOURNAL_STACK);
 }

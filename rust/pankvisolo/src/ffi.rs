@@ -64,9 +64,31 @@ pub(crate) struct Reply {
     pub written: usize,
 }
 
+/// `Reading::verdict` and `Extent::verdict`.
+pub(crate) const WHOLE: u32 = 0;
+pub(crate) const TORN: u32 = 1;
+pub(crate) const REFUSED: u32 = 2;
+/// An extent's alone.
+pub(crate) const BATCH: u32 = 3;
+
+/// What a journal was found to be, and where its good part ends.
+#[repr(C)]
+pub(crate) struct Reading {
+    pub verdict: u32,
+    pub end: usize,
+}
+
+/// What stands where a length would, and where the records of a batch start and end.
+#[repr(C)]
+pub(crate) struct Extent {
+    pub verdict: u32,
+    pub start: usize,
+    pub end: usize,
+}
+
 /// A group crosses as a pointer, a slice as a pointer and then a length.
 mod exported {
-    use super::{Group, Id, Reply, Request};
+    use super::{Extent, Group, Id, Reading, Reply, Request};
 
     extern "C" {
         pub fn pankvisolo_fresh(tick: u32) -> Group;
@@ -106,6 +128,32 @@ mod exported {
             records: *mut u8,
             records_length: usize,
         ) -> Reply;
+
+        pub fn pankvisolo_read_journal(
+            group: *mut Group,
+            tick: u32,
+            bytes: *const u8,
+            bytes_length: usize,
+        ) -> Reading;
+
+        pub fn pankvisolo_next_batch(bytes: *const u8, bytes_length: usize, at: usize) -> Extent;
+
+        pub fn pankvisolo_read_batch(
+            group: *mut Group,
+            tick: u32,
+            batch: *const u8,
+            batch_length: usize,
+        ) -> bool;
+
+        pub fn pankvisolo_frame(
+            records: *const u8,
+            records_length: usize,
+            journal: *mut u8,
+            journal_length: usize,
+        ) -> usize;
+
+        #[cfg(test)]
+        pub fn pankvisolo_put_heading(journal: *mut u8, journal_length: usize) -> usize;
     }
 }
 
@@ -182,4 +230,41 @@ pub(crate) fn install(group: &mut Group, epoch: i32, entries: &[u8], records: &m
             records.len(),
         )
     }
+}
+
+/// The group is written over, whatever it was.
+pub(crate) fn read_journal(group: &mut Group, tick: u32, bytes: &[u8]) -> Reading {
+    // SAFETY: as for `heartbeat`, with `bytes` read and the group written.
+    unsafe { exported::pankvisolo_read_journal(group, tick, bytes.as_ptr(), bytes.len()) }
+}
+
+pub(crate) fn next_batch(bytes: &[u8], at: usize) -> Extent {
+    // SAFETY: as for `heartbeat`, with `bytes` read; the function takes every `at`.
+    unsafe { exported::pankvisolo_next_batch(bytes.as_ptr(), bytes.len(), at) }
+}
+
+/// False: refused, and the group is as it was.
+pub(crate) fn read_batch(group: &mut Group, tick: u32, batch: &[u8]) -> bool {
+    // SAFETY: as for `heartbeat`, with `batch` read and the group written. Rattle's bool is 0 or 1.
+    unsafe { exported::pankvisolo_read_batch(group, tick, batch.as_ptr(), batch.len()) }
+}
+
+/// The bytes written; 0: nothing was.
+pub(crate) fn frame(records: &[u8], journal: &mut [u8]) -> usize {
+    // SAFETY: as for `heartbeat`, with `records` read and `journal` written.
+    unsafe {
+        exported::pankvisolo_frame(
+            records.as_ptr(),
+            records.len(),
+            journal.as_mut_ptr(),
+            journal.len(),
+        )
+    }
+}
+
+/// The bytes written; 0: nothing was.
+#[cfg(test)]
+pub(crate) fn put_heading(journal: &mut [u8]) -> usize {
+    // SAFETY: as for `heartbeat`, with `journal` written.
+    unsafe { exported::pankvisolo_put_heading(journal.as_mut_ptr(), journal.len()) }
 }

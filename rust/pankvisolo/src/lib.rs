@@ -39,6 +39,7 @@ mod answers;
 mod ffi;
 mod group;
 mod ids;
+pub mod journal;
 mod protocol;
 mod refusal;
 

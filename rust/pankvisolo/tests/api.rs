@@ -2,7 +2,10 @@
 //! them is as written here.
 
 use std::fmt::Debug;
+use std::io;
+use std::path::Path;
 
+use pankvisolo::journal::{self, Reader, Reading, Store, Verdict};
 use pankvisolo::{Answer, Group, Heartbeat, Id, Member, Refusal, Reply, Topic};
 
 const ID: Id = [0xAA; 16];
@@ -98,4 +101,48 @@ fn every_answer_and_every_refusal() {
     };
     assert_eq!(kind(Answer::Left), "left");
     let _: fn(Refusal) -> u16 = Refusal::number;
+}
+
+#[test]
+fn the_journal() {
+    let _: [u8; 4] = journal::HEADING;
+    let _: fn(&[u8], &mut [u8]) -> Option<usize> = journal::frame;
+    let _: for<'a> fn(&'a [u8], u32) -> Reading<'a> = journal::read;
+    let read = |bytes| {
+        // Written out whole, so that a field or a case more or less doesn't compile.
+        let Reading {
+            group,
+            end,
+            verdict,
+        } = journal::read(bytes, 1_000);
+        let (_, _): (Group, usize) = (group, end);
+        match verdict {
+            Verdict::Whole => "whole",
+            Verdict::Torn { tail: [..] } => "torn",
+            Verdict::Refused { offset: 0_usize.. } => "refused",
+        }
+    };
+    assert_eq!(
+        [&b""[..], b"GRJ1", b"GRJ0"].map(read),
+        ["torn", "whole", "refused"]
+    );
+}
+
+#[test]
+fn a_reader() {
+    let _: fn(u32) -> Reader = Reader::new;
+    let _: fn(&mut Reader, &[u8]) = Reader::push;
+    let _: fn(&Reader) -> &Group = Reader::group;
+    let _: fn(&Reader) -> usize = Reader::end;
+    let _: fn(&Reader) -> Verdict<'_> = Reader::verdict;
+}
+
+#[test]
+fn a_store() {
+    let _: fn(&Path, u32) -> io::Result<Store> = Store::open;
+    let _: fn(&Store) -> &Group = Store::group;
+    let _: fn(&mut Store, &Heartbeat, &mut [u16]) -> io::Result<Answer> = Store::heartbeat;
+    let _: fn(&mut Store, u32) -> io::Result<Answer> = Store::sweep;
+    let _: fn(&mut Store, u32, Id, u32) -> io::Result<Answer> = Store::topic;
+    let _: fn(&mut Store, i32, &[u8]) -> io::Result<Answer> = Store::install;
 }

@@ -49,6 +49,22 @@ impl Group {
         }
     }
 
+    /// "every last-heard tick, the tick P was set and the last tick become the tick of reading".
+    pub fn set_every_tick(&mut self, tick: u32) {
+        self.last_tick = tick;
+        for member in self.members.values_mut() {
+            member.set_ticks(tick);
+        }
+    }
+
+    /// Sets both ticks of the member at the place, for tests of who is swept.
+    pub fn set_ticks_of(&mut self, place: u8, tick: u32) {
+        let id = self.places.get(usize::from(place)).copied().flatten();
+        if let Some(member) = id.and_then(|id| self.members.get_mut(&id)) {
+            member.set_ticks(tick);
+        }
+    }
+
     pub fn epoch(&self) -> i32 {
         self.epoch
     }

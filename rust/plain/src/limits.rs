@@ -9,6 +9,9 @@ pub const SLOTS: usize = TOPICS * PARTITIONS;
 /// "Members: at most 32, at places 0 to 31."
 pub const PLACES: usize = 32;
 
+/// "No event needs more than 4,096 bytes."
+pub const LARGEST_BATCH: usize = 4_096;
+
 /// Install: "a place or 255 for none".
 pub const NO_PLACE: u8 = 255;
 /// "list length not 1,024 (slot reported 65,535)".

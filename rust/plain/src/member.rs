@@ -55,6 +55,11 @@ impl Membership {
         silent >= SESSION_TIMEOUT || (!self.holding.revoking.is_empty() && waiting >= self.timeout)
     }
 
+    pub fn set_ticks(&mut self, tick: u32) {
+        self.heard = tick;
+        self.holding.revoked_at = tick;
+    }
+
     pub fn picture(&self) -> Member {
         Member {
             id: self.id,

@@ -6,15 +6,18 @@ use crate::member::{Holding, Membership};
 use crate::protocol::{Id, Place, Slot, Topic};
 use crate::refusal::Refusal;
 
-const GROUP_EPOCH: u8 = 3;
-const TOPIC: u8 = 4;
-const MEMBER: u8 = 5;
-const TARGET_EPOCH: u8 = 6;
-const TARGET: u8 = 7;
-const ASSIGNMENT: u8 = 8;
+pub(crate) const GROUP_EPOCH: u8 = 3;
+pub(crate) const TOPIC: u8 = 4;
+pub(crate) const MEMBER: u8 = 5;
+pub(crate) const TARGET_EPOCH: u8 = 6;
+pub(crate) const TARGET: u8 = 7;
+pub(crate) const ASSIGNMENT: u8 = 8;
 
-const GONE: u8 = 0;
-const PRESENT: u8 = 1;
+pub(crate) const GONE: u8 = 0;
+pub(crate) const PRESENT: u8 = 1;
+
+/// "the top bit set on all but the last byte".
+pub(crate) const MORE: u8 = 0x80;
 
 pub(crate) struct Records {
     bytes: Vec<u8>,
@@ -80,6 +83,11 @@ impl Records {
         self.bytes.extend([MEMBER, member.place, GONE]);
     }
 
+    /// Records that stand there already.
+    pub fn append(&mut self, records: &[u8]) {
+        self.bytes.extend(records);
+    }
+
     /// "Each record goes straight after the one before, from the buffer's start; bytes after the
     /// last are unchanged." 1003 where they don't fit, and then nothing is written.
     pub fn store(&self, buffer: &mut [u8]) -> Result<usize, Refusal> {
@@ -106,9 +114,9 @@ impl Records {
 
     /// "A number is written in groups of seven bits, lowest first, the top bit set on all but the
     /// last byte, in the fewest bytes."
-    fn number(&mut self, mut number: u32) {
-        while number >= 0x80 {
-            self.bytes.push(number as u8 | 0x80);
+    pub fn number(&mut self, mut number: u32) {
+        while number >= MORE.into() {
+            self.bytes.push(number as u8 | MORE);
             number >>= 7;
         }
         self.bytes.push(number as u8);

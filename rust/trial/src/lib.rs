@@ -6,15 +6,23 @@
 //! members. From random points of a run three rounds of heartbeats must bring every member to its
 //! target.
 //!
+//! Journals are tried the same way (`journal`): two readers are given files as they were written, and
+//! damaged ones, and must read the same group from each and stop at the same byte.
+//!
+//! And a broker over the binding's store is killed and started again (`crash`): no answer that went out
+//! may be lost, and the ledger holds over it all.
+//!
 //! Where the coordinators are named: `sides`. How a coordinator is plugged in: `coordinator`.
 #![forbid(unsafe_code)]
 
 pub mod coordinator;
 pub mod coverage;
+pub mod crash;
 pub mod data;
 pub mod explore;
 pub mod force;
 pub mod generate;
+pub mod journal;
 mod labels;
 pub mod ledger;
 mod lent;

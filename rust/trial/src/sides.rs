@@ -4,6 +4,7 @@
 
 use crate::coordinator::{coordinate, translate};
 use crate::data::{Answer, Beat, Id, Member, Reply, Topic};
+use crate::journal::reads::read_journals;
 
 coordinate!(pankvisolo);
 translate!(pankvisolo);
@@ -13,9 +14,15 @@ coordinate!(plain);
 coordinate!(tuned);
 translate!(plain);
 
+read_journals!(plain);
+read_journals!(pankvisolo);
+
 /// The coordinators under trial: the proved one, and the one that is only a measure of its speed.
 pub type Proved = pankvisolo::Group;
 pub type Tuned = tuned::Group;
+
+/// The proved reader of journals again, given the file in parts.
+pub use crate::journal::in_parts::InParts;
 
 /// The one they are compared with; events are made with an eye on this one.
 pub type Reference = plain::Group;

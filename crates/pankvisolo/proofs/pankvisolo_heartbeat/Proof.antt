@@ -22,7 +22,7 @@ use Rattle.pankvisolo.proofs.Lending.{Names, refsOf, ptrsOf}
 use Rattle.pankvisolo.proofs.Forwarding.{members, plain, Forward, Begun, lends-to, hands-back}
 use types.Kit.{split, join}
 use types.Run.{look-raw, of-opd}
-use Rattle.pankvisolo.proofs.Reading.{Behind, inner, outer, looking, looked, hands-back-kept}
+use Rattle.pankvisolo.proofs.Behind.{Behind, inner, outer, looking, looked, hands-back-kept}
 use Rattle.group.proofs.Group as T
 use Rattle.pankvisolo.proofs.Reply as P
 use Rattle.pankvisolo.proofs.Reply.Laws as PL
@@ -80,6 +80,7 @@ module _ {M : Type 1} (𝓤 : URA M) (H : Heap 𝓤) (A : Atoms 𝓤) (W : Given
       Rest = owns (others (others (typesAt (f.signature .params) κs))) (a .1 .1) (us .1 .1);
       Lasts = Fins κs (others (f.signature .params)) (f.ended .kept .1) (a .1);
       Last = lastsOf κs (others (f.signature .params)) (f.ended .kept .1) (a .1);
+      reply = P.the-row;
       Told = λ r group′ z. Serves (E.heartbeat (requestOf (request .now) (owned .now))) (group .now) group′ r (records .now) (z .1 .1 .0) (list .now) (z .1 .1 .1 .0);
     }
 

@@ -72,6 +72,7 @@ module _ {M : Type 1} (𝓤 : URA M) (H : Heap 𝓤) (A : Atoms 𝓤) (W : Given
       Rest = owns (others (typesAt (f.signature .params) κs)) (a .1) (us .1);
       Lasts = Fins κs (others (f.signature .params)) (f.ended .kept .1) (a .1);
       Last = lastsOf κs (others (f.signature .params)) (f.ended .kept .1) (a .1);
+      reply = P.the-row;
       Told = λ r group′ z. ((l : List ℕ) → Serves (E.install epoch (entries .now)) (group .now) group′ r (records .now) (z .1 .1 .0) l l);
     }
 

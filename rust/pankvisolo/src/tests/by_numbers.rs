@@ -4,7 +4,7 @@ use std::fmt::Write;
 use std::mem::{offset_of, size_of};
 
 use super::c_compiler::output_of;
-use crate::ffi::{Group, Id, Reply, Request};
+use crate::ffi::{Extent, Group, Id, Reading, Reply, Request};
 
 /// Lines as c/layout.c prints them.
 macro_rules! layout {
@@ -40,6 +40,8 @@ fn sizes_and_offsets_are_those_of_the_header() {
         Request request { id epoch tick timeout has_subscription subscription has_list }
         Id id { bytes }
         Reply reply { number interval epoch count slot written }
+        Reading reading { verdict end }
+        Extent extent { verdict start end }
     };
     assert_eq!(declared, output_of("layout"));
 }

@@ -31,10 +31,18 @@ sweep: 0, interval 0, epoch 0, count 1, slot 65535
   slots
   bytes 08 00 00 07 00 00 05 00 00 03 02
   G 2, T 1, tick 46000
+journal, 84 bytes: verdict 0, end 84
+  G 2, T 1, tick 60000
+cut, 83 bytes: verdict 1, end 72
+  G 1, T 1, tick 60000
+another epoch, 84 bytes: verdict 2, end 72
+  G 1, T 1, tick 60000
+by batches: 5-24 25-54 55-63 64-72 73-84
+  verdict 0, G 2, T 1, tick 60000
 ";
 
 #[test]
-fn p1_to_p4_refusals_and_a_sweep() {
+fn p1_to_p4_refusals_a_sweep_and_the_journal() {
     for language in [Language::C99, Language::C11, Language::Cpp17] {
         assert_eq!(output_in(language, "worked_example"), PRINTED);
     }

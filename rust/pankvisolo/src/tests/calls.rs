@@ -6,6 +6,7 @@ use std::array;
 
 use crate::ffi::{self, Group, Id, Reply, Request};
 use crate::ids;
+use crate::journal::HEADING;
 
 const MEMBER: [u8; 16] = *b"0123456789abcdef";
 const TICK: u32 = 0x0102_0304;
@@ -216,6 +217,97 @@ fn a_list_of_owned_slots_is_read_to_its_end() {
     let (held, one_more) = (&slots[..usize::from(SLOTS)], &slots[..]);
     assert_eq!((listing(held), listing(one_more)), (0, 42));
     assert_eq!(listing(&held[7..]), 0);
+}
+
+/// Every tick of the group that is read is the one given, and the bytes are read to their end.
+#[test]
+fn a_journal_has_the_tick_and_the_bytes_that_were_given() {
+    let file = [&b"GRJ1\x13\x04\x05"[..], &MEMBER, &[7]].concat();
+    let mut read = group();
+    let reading = ffi::read_journal(&mut read, TICK, &file);
+    assert_eq!((reading.verdict, reading.end), (ffi::WHOLE, 24));
+    // Nothing is left of the group that was there.
+    assert_eq!((read.tick, read.epoch, read.target_epoch), (TICK, 0, 0));
+    assert_eq!(read.member_ids, [[0; ffi::PLACES]; 4]);
+    assert_eq!((read.topic_ids[5], read.topic_counts[5]), (MEMBER, 7));
+    assert_eq!(read.topic_counts.iter().sum::<u8>(), 7);
+    assert_eq!(read.target, [ffi::NO_PLACE; ffi::SLOTS]);
+
+    let reading = ffi::read_journal(&mut read, !TICK, &file[..23]);
+    assert_eq!((reading.verdict, reading.end), (ffi::TORN, 4));
+    assert_eq!((read.tick, read.topic_counts), (!TICK, [0; ffi::TOPICS]));
+    // A large offset, of which no byte is 0.
+    let long = [&file[..], &[0; 0x0102_0304]].concat();
+    let reading = ffi::read_journal(&mut read, TICK, &long);
+    assert_eq!((reading.verdict, reading.end), (ffi::REFUSED, 24));
+}
+
+#[test]
+fn the_next_batch_stands_where_it_was_looked_for() {
+    let mut bytes = vec![0x81; 0x0102_0304];
+    let at = bytes.len();
+    bytes.extend([0xAD, 0x02]);
+    bytes.extend([9; 0x012D]);
+    let next = |bytes: &[u8], at| {
+        let batch = ffi::next_batch(bytes, at);
+        (batch.verdict, batch.start, batch.end)
+    };
+    assert_eq!(next(&bytes, at), (ffi::BATCH, at + 2, at + 2 + 0x012D));
+    let end = bytes.len();
+    assert_eq!(next(&bytes, end), (ffi::WHOLE, end, end));
+    assert_eq!(next(&bytes, usize::MAX).0, ffi::WHOLE);
+    assert_eq!(next(&bytes[..end - 1], at), (ffi::TORN, at, at));
+    assert_eq!(next(&bytes[..at + 1], at), (ffi::TORN, at, at));
+    assert_eq!(next(&bytes, at - 2), (ffi::REFUSED, at - 2, at - 2));
+}
+
+#[test]
+fn a_batch_has_the_tick_and_the_records_that_were_given() {
+    let topic = [&[4, 13][..], &MEMBER, &[42]].concat();
+    let mut read = ffi::fresh(0);
+    assert!(ffi::read_batch(&mut read, TICK, &topic));
+    assert_eq!((read.tick, read.topic_ids[13]), (TICK, MEMBER));
+    assert!(!ffi::read_batch(&mut read, TICK, &topic[..18]));
+    let mut read = group_without_target();
+    let install = [&[6][..], &[0x88, 0x8E, 0x98, 0x28]].concat();
+    assert!(ffi::read_batch(&mut read, !TICK, &install));
+    assert_eq!((read.target_epoch, read.epoch), (EPOCH, EPOCH));
+    assert_eq!((read.heard[0], read.revoked_at[0]), (!TICK, !TICK));
+}
+
+#[test]
+fn a_frame_is_a_length_and_the_records_that_were_given() {
+    for (size, before) in [
+        (1, &[1][..]),
+        (127, &[127]),
+        (128, &[128, 1]),
+        (4_096, &[128, 32]),
+    ] {
+        let records: Vec<u8> = (0..size).map(|at| at as u8).collect();
+        let framed = [before, &records].concat();
+        let mut journal = vec![0x5A; framed.len() + 3];
+        assert_eq!(ffi::frame(&records, &mut journal), framed.len());
+        assert_eq!(journal, [&framed[..], &[0x5A; 3]].concat());
+        assert_eq!(
+            ffi::frame(&records, &mut journal[..framed.len()]),
+            framed.len()
+        );
+        let short = &mut [0x5A; 4_098][..framed.len() - 1];
+        assert_eq!(ffi::frame(&records, short), 0);
+        assert!(short.iter().all(|&byte| byte == 0x5A));
+    }
+    assert_eq!(ffi::frame(&[], &mut [0; 9]), 0);
+    assert_eq!(ffi::frame(&[0; 4_097], &mut [0; 5_000]), 0);
+}
+
+#[test]
+fn the_heading_is_the_one_declared() {
+    let mut journal = [0x5A; 6];
+    assert_eq!(ffi::put_heading(&mut journal), 4);
+    assert_eq!(journal, *b"GRJ1\x5A\x5A");
+    assert_eq!(journal[..4], HEADING);
+    assert_eq!(ffi::put_heading(&mut [0; 3]), 0);
+    assert_eq!(ffi::put_heading(&mut [0; 4]), 4);
 }
 
 /// A buffer of just the bytes that the event writes will do, and one of a byte less will not.

@@ -135,6 +135,28 @@ fn of_an_install() {
     refuses(&group, 1003, of(epoch, &[255; 1_024]));
 }
 
+/// A batch that no event would write for this group, and one that is cut.
+#[test]
+fn of_a_batch() {
+    let group = events().value;
+    let topic = [&[4, 0][..], &group.topic_ids[0], &[64, 3, 34]].concat();
+    let batches = [
+        &[][..],
+        &[6, 34],
+        &topic[..topic.len() - 1],
+        &[&topic[..], &[3, 35]].concat(),
+        &[0; 4_097],
+    ];
+    for batch in batches {
+        let mut after = group.clone();
+        assert!(!ffi::read_batch(&mut after, group.tick + 9, batch));
+        assert!(after == group, "{batch:02X?} changed the group");
+    }
+    let mut after = group.clone();
+    assert!(ffi::read_batch(&mut after, group.tick + 9, &topic));
+    assert_eq!((after.epoch, after.topic_counts[0]), (34, 64));
+}
+
 /// A change in a place that is free shows in no function of a group, and in its value.
 #[test]
 fn what_nothing_shows_is_compared_too() {

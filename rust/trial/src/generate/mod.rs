@@ -9,7 +9,8 @@ mod profile;
 mod ticks;
 mod topics;
 
-pub use profile::{Profile, PROFILES};
+pub use ids::new as new_id;
+pub use profile::{Profile, PROFILES, SMALL_PROFILES};
 
 use crate::coordinator::Coordinator;
 use crate::data::{Beat, Event, Id, Member, Reply, Start, Turn, PLACES, ROOMY, SLOTS};

@@ -150,3 +150,49 @@ pub static PROFILES: [Profile; 11] = [
         ..CALM
     },
 ];
+
+const FEW: Profile = Profile {
+    name: "few",
+    clients: (1, 3),
+    topics: 2,
+    partitions: 2,
+    events: (30, 90),
+    weights: [60, 6, 4, 8, 1, 20, 1],
+    leaves_per_100: 4,
+    ..CALM
+};
+
+/// Groups of which every event can be tried.
+pub static SMALL_PROFILES: [Profile; 5] = [
+    FEW,
+    Profile {
+        name: "few, one topic",
+        clients: (2, 4),
+        topics: 1,
+        partitions: 3,
+        ..FEW
+    },
+    Profile {
+        name: "few at the end",
+        beginning: Beginning::NearEnd(0, 12),
+        ..FEW
+    },
+    Profile {
+        name: "few, three topics",
+        clients: (1, 2),
+        topics: 3,
+        pace: Pace::Brisk,
+        lost_per_100: 10,
+        ..FEW
+    },
+    Profile {
+        name: "crowd",
+        clients: (36, 44),
+        topics: 1,
+        partitions: 1,
+        events: (80, 160),
+        weights: [90, 6, 1, 2, 0, 4, 0],
+        leaves_per_100: 1,
+        ..FEW
+    },
+];

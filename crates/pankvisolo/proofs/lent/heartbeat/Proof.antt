@@ -2,7 +2,8 @@
 use borrow.Author.Needs.{needs}
 use Rattle.group.specs.View.{viewTopics}
 use Rattle.group.specs.Parts.{viewParts}
-use Rattle.pankvisolo.proofs.Answering.{withTopics, view-topics, serves}
+use Rattle.judging.proofs.Resting.{withTopics, view-topics}
+use Rattle.pankvisolo.proofs.Answering.{serves}
 use Rattle.pankvisolo.proofs.lent.heartbeat.Statement.{statement}
 use Rattle.pankvisolo.proofs.lent.heartbeat.Tie as tie
 

@@ -5,7 +5,8 @@ use lib.IntN.{ℤ}
 use mir.Facts.{toZ-ofZ}
 use Rattle.rules.specs.Event as E
 use Rattle.group.specs.Parts.{Holding, viewTargetParts}
-use Rattle.pankvisolo.proofs.Answering.{withHolding, view-holding, serves, same-event}
+use Rattle.judging.proofs.Resting.{withHolding, view-holding}
+use Rattle.pankvisolo.proofs.Answering.{serves, same-event}
 use Rattle.pankvisolo.proofs.lent.install.Statement.{statement}
 use Rattle.pankvisolo.proofs.lent.install.Tie as tie
 

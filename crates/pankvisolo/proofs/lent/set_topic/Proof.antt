@@ -1,7 +1,8 @@
 -- As for a heartbeat: what was lent on is all but the tables.
 use borrow.Author.Needs.{needs}
 use Rattle.group.specs.Parts.{viewTopicParts}
-use Rattle.pankvisolo.proofs.Answering.{withTables, view-tables, serves}
+use Rattle.judging.proofs.Resting.{withTables, view-tables}
+use Rattle.pankvisolo.proofs.Answering.{serves}
 use Rattle.pankvisolo.proofs.lent.set_topic.Statement.{statement}
 use Rattle.pankvisolo.proofs.lent.set_topic.Tie as tie
 

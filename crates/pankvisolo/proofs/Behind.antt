@@ -19,7 +19,6 @@ use denote.Ref.{RefT, MutRef, ShrRef}
 use denote.Steps.{peeks, looks, shuts, owned as made}
 use denote.Struct.Steps.{spelt}
 use Rattle.group.specs.declared.Group.{Group}
-use Rattle.pankvisolo.specs.declared.Reply.{Reply}
 use Rattle.pankvisolo.proofs.Forwarding.{Forward, Begun, Ended, Result, hands-back}
 use Rattle.group.proofs.Group as T
 
@@ -63,6 +62,7 @@ module _ {M : Type 1} {𝓤 : URA M} {H : Heap 𝓤} {A : Atoms 𝓤} (W : Given
     Rest = fsep (R .own h (B .vals h)) (F .Rest);
     Lasts = F .Lasts;
     Last = F .Last;
+    reply = F .reply;
     Told = F .Told;
   }
 
@@ -75,6 +75,7 @@ module _ {M : Type 1} {𝓤 : URA M} {H : Heap 𝓤} {A : Atoms 𝓤} (W : Given
     Rest = fsep (ShrRef (named 1) κ R .own (B .ref) (vptr b o ∷ [])) (F .Rest);
     Lasts = F .Lasts;
     Last = F .Last;
+    reply = F .reply;
     Told = F .Told;
   }
 
@@ -105,7 +106,7 @@ module _ {M : Type 1} {𝓤 : URA M} {H : Heap 𝓤} {A : Atoms 𝓤} (W : Given
         -- [owned; token; the rest; the group; the group's token; tokens]
         move t (0 ∷ 2 ∷ []) $ fjoin t $ move t (2 ∷ 0 ∷ []) $ fjoin t $ move t (2 ∷ 3 ∷ 0 ∷ []) $ join t $ join t $ join t $ k)
 
-  pub hands-back-kept : {K : Type 0} (t : K) {r : Reply} {v : Val} {g : Group} {w : F .Lasts} → F .Told r g w
+  pub hands-back-kept : {K : Type 0} (t : K) {r : F .reply .Denot} {v : Val} {g : Group} {w : F .Lasts} → F .Told r g w
       → Seq K W ((Ended W inner r v g w ⊛ ‵ (flft κ q)) ∷ []) (prop (Result W outer v))
   hands-back-kept t e =
       split t $ split t $ split t $ split t $

@@ -1,0 +1,8 @@
+pub mod Beating
+pub mod Bytes
+pub mod Candidates
+pub mod Reading
+pub mod Resting
+pub mod Stepping
+pub mod Ticks
+pub mod Tries

@@ -1,0 +1,4 @@
+pub mod Fitting
+pub mod Places
+pub mod Narrow
+pub mod Views
