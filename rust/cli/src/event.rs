@@ -1,5 +1,8 @@
 //! An event with what is lent to it, and what comes of it.
 
+use std::io;
+
+use crate::coordinator::journal::Store;
 use crate::coordinator::{Answer, Group, Heartbeat, Id, Reply};
 use crate::group::SLOTS;
 
@@ -82,20 +85,43 @@ impl Event {
     fn reply(&self, group: &mut Group, records: &mut [u8], assignment: &mut [u16]) -> Reply {
         let last = group.last_tick();
         match self {
-            Event::Heartbeat(beat) => {
-                let request = Heartbeat {
-                    id: beat.id,
-                    epoch: beat.epoch,
-                    tick: beat.tick.seen_from(last),
-                    timeout: beat.timeout,
-                    subscription: beat.subscription,
-                    owned: beat.owned.as_deref(),
-                };
-                group.heartbeat(&request, records, assignment)
-            }
+            Event::Heartbeat(beat) => group.heartbeat(&beat.request(last), records, assignment),
             Event::Sweep { tick } => group.sweep(tick.seen_from(last), records),
             Event::Topic { number, id, count } => group.topic(*number, *id, *count, records),
             Event::Install { epoch, entries } => group.install(*epoch, entries, records),
+        }
+    }
+
+    /// What comes of it once a store has its batch. The store lends room for everything and keeps the
+    /// records to itself, so a copy of the group tells what the event writes, and whether it fits.
+    pub fn run_stored(&self, store: &mut Store, lent: Lent) -> io::Result<Outcome> {
+        let mut outcome = self.run(&mut store.group().clone(), lent);
+        if !matches!(outcome.answer, Answer::Refused(_)) {
+            outcome.answer = self.answer_of(store, &mut outcome.slots)?;
+        }
+        Ok(outcome)
+    }
+
+    fn answer_of(&self, store: &mut Store, assignment: &mut [u16]) -> io::Result<Answer> {
+        let last = store.group().last_tick();
+        match self {
+            Event::Heartbeat(beat) => store.heartbeat(&beat.request(last), assignment),
+            Event::Sweep { tick } => store.sweep(tick.seen_from(last)),
+            Event::Topic { number, id, count } => store.topic(*number, *id, *count),
+            Event::Install { epoch, entries } => store.install(*epoch, entries),
+        }
+    }
+}
+
+impl Beat {
+    fn request(&self, last: u32) -> Heartbeat<'_> {
+        Heartbeat {
+            id: self.id,
+            epoch: self.epoch,
+            tick: self.tick.seen_from(last),
+            timeout: self.timeout,
+            subscription: self.subscription,
+            owned: self.owned.as_deref(),
         }
     }
 }

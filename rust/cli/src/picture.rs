@@ -41,22 +41,34 @@ impl Picture {
 
     /// The picture in lines, with `*` at each row that is not as before.
     pub fn lines(&self, before: &Picture, style: Style) -> Vec<String> {
-        let (epoch, target_epoch) = (self.epoch, self.target_epoch);
-        let epochs = format!("group   epoch {epoch}, target epoch {target_epoch}");
-        let free = format!("free    {}", slots::show(&self.free));
         let marked = self.marked_rows(before);
-        if marked.is_empty() {
-            return vec![format!("{epochs}, no members"), free];
-        }
         let few = marked.len() <= FEW;
         let shown: Vec<&(bool, Row)> = marked.iter().filter(|row| few || row.0).collect();
-        let mut lines = vec![epochs, free];
+        let mut lines = self.front(marked.is_empty());
         lines.extend(table_lines(&shown, style));
         match marked.len() - shown.len() {
             0 => {}
             left_out => lines.push(format!("  and {left_out} as before")),
         }
         lines
+    }
+
+    /// The picture with all of its rows and no marks.
+    pub fn all_lines(&self, style: Style) -> Vec<String> {
+        let marked = self.marked_rows(self);
+        let mut lines = self.front(marked.is_empty());
+        lines.extend(table_lines(&marked.iter().collect::<Vec<_>>(), style));
+        lines
+    }
+
+    /// What stands above the rows.
+    fn front(&self, no_rows: bool) -> Vec<String> {
+        let (epoch, target_epoch) = (self.epoch, self.target_epoch);
+        let nobody = if no_rows { ", no members" } else { "" };
+        vec![
+            format!("group   epoch {epoch}, target epoch {target_epoch}{nobody}"),
+            format!("free    {}", slots::show(&self.free)),
+        ]
     }
 
     /// The rows by place, those of members that went too, and whether each changed.

@@ -1,24 +1,11 @@
 //! Runs a script line by line and stops at the first that is wrong.
 
-use std::io::{self, BufRead, Read, Write};
+use std::io::{BufRead, Read, Write};
 
-use crate::line;
+use crate::failure::Failure;
+use crate::line::{self, Step};
 use crate::session::Session;
-use crate::words::Fault;
-
-/// Why a script was not run to its end.
-#[derive(Debug)]
-pub enum Failure {
-    /// What is wrong with the input, in words.
-    Input(String),
-    Output(io::Error),
-}
-
-impl From<io::Error> for Failure {
-    fn from(error: io::Error) -> Failure {
-        Failure::Output(error)
-    }
-}
+use crate::words::{words, Fault};
 
 /// A longer line is no script's.
 const LONGEST: usize = 65_536;
@@ -36,11 +23,23 @@ pub fn run<W: Write>(
         let Some(line) = next_line(&at, input).map_err(Failure::Input)? else {
             return Ok(());
         };
-        match line::read(&line) {
+        match step(&line, session.has_batches()) {
             Ok(Some(step)) => session.step(&line, &step)?,
             Ok(None) => {}
             Err(fault) => return Err(Failure::Input(report(&at, &line, &fault))),
         }
+    }
+}
+
+/// What the line says; a journal is of one group.
+fn step(line: &str, has_batches: bool) -> Result<Option<Step>, Fault> {
+    let step = line::read(line)?;
+    match (&step, words(line).first()) {
+        (Some(Step::Fresh { .. }), Some(word)) if has_batches => Err(word.fault(
+            "the journal has a group already",
+            "no 'fresh' once a batch is stored, or another journal",
+        )),
+        _ => Ok(step),
     }
 }
 

@@ -1,9 +1,13 @@
 //! Runs steps on a group and prints what comes of each.
 
 use std::io::{self, Write};
+use std::mem;
 
-use crate::coordinator::{Answer, Group};
+use crate::coordinator::Answer;
 use crate::event::{Event, Lent, Outcome};
+use crate::failure::Failure;
+use crate::found::Found;
+use crate::host::Host;
 use crate::line::Step;
 use crate::picture::Picture;
 use crate::style::Style;
@@ -13,49 +17,65 @@ use crate::{answer, hex, slots, why};
 pub struct Session<W> {
     out: W,
     style: Style,
-    group: Group,
+    host: Host,
     /// The picture drawn last.
     drawn: Picture,
-    /// The events that this group has seen.
+    /// The events that this group has seen here.
     events: u64,
 }
 
 impl<W: Write> Session<W> {
-    /// Begins with a group made at tick 0.
-    pub fn new(out: W, style: Style) -> Session<W> {
-        let group = Group::new(0);
+    pub fn new(host: Host, out: W, style: Style) -> Session<W> {
         Session {
             out,
             style,
-            drawn: Picture::of(&group),
-            group,
+            drawn: Picture::of(host.group()),
+            host,
             events: 0,
         }
     }
 
-    /// Runs a step and prints it as it stands in its line.
-    pub fn step(&mut self, line: &str, step: &Step) -> io::Result<()> {
-        match step {
-            Step::Fresh { tick } => self.fresh(*tick, line)?,
-            Step::Event(event, lent) => self.event(event, *lent, line)?,
+    /// Prints what the journal was found to be that the session goes on with.
+    pub fn goes_on(&mut self, name: &str, found: &Found) -> io::Result<()> {
+        let name = name.replace(char::is_control, " ");
+        self.indented(&self.style.event(&format!("journal {name}")))?;
+        for line in found.lines(self.style) {
+            self.indented(&line)?;
         }
         writeln!(self.out)?;
         self.out.flush()
     }
 
-    fn fresh(&mut self, tick: u32, line: &str) -> io::Result<()> {
-        self.group = Group::new(tick);
-        self.drawn = Picture::of(&self.group);
-        self.events = 0;
-        self.heading("", line)
+    /// Whether there is a journal with a batch, so that no fresh group can be had.
+    pub fn has_batches(&self) -> bool {
+        self.host.has_batches()
     }
 
-    fn event(&mut self, event: &Event, lent: Lent, line: &str) -> io::Result<()> {
+    /// Runs a step and prints it as it stands in its line.
+    pub fn step(&mut self, line: &str, step: &Step) -> Result<(), Failure> {
+        match step {
+            Step::Fresh { tick } => self.fresh(*tick, line)?,
+            Step::Event(event, lent) => self.event(event, *lent, line)?,
+        }
+        writeln!(self.out)?;
+        Ok(self.out.flush()?)
+    }
+
+    fn fresh(&mut self, tick: u32, line: &str) -> Result<(), Failure> {
+        self.heading("", line)?;
+        let host = mem::replace(&mut self.host, Host::in_memory());
+        self.host = host.fresh(tick).map_err(Failure::Journal)?;
+        self.drawn = Picture::of(self.host.group());
+        self.events = 0;
+        Ok(())
+    }
+
+    fn event(&mut self, event: &Event, lent: Lent, line: &str) -> Result<(), Failure> {
         self.events += 1;
         self.heading(&self.events.to_string(), line)?;
-        let outcome = event.run(&mut self.group, lent);
+        let outcome = self.host.run(event, lent).map_err(Failure::Journal)?;
         self.outcome(&outcome, event, lent)?;
-        let picture = Picture::of(&self.group);
+        let picture = Picture::of(self.host.group());
         if picture != self.drawn {
             for line in picture.lines(&self.drawn, self.style) {
                 self.indented(&line)?;
@@ -81,7 +101,7 @@ impl<W: Write> Session<W> {
     }
 
     fn outcome(&mut self, outcome: &Outcome, event: &Event, lent: Lent) -> io::Result<()> {
-        let because = |refusal| why::why(refusal, event, lent, &self.group);
+        let because = |refusal| why::why(refusal, event, lent, self.host.group());
         let words = answer::words(outcome.answer, because);
         match outcome.answer {
             Answer::Refused(_) => self.labelled("answer", &self.style.refusal(&words))?,

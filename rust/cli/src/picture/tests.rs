@@ -111,3 +111,15 @@ free    t0:0-63 t1:0-63 t2:0-63 t3:0-63 t4:0-63 t5:0-63
                                            t4:0-63 t5:0-63";
     assert_eq!(picture(&lines, "install epoch 1 0-383 to p0"), expected);
 }
+
+#[test]
+fn all_rows_without_marks() {
+    let mut group = Group::new(0);
+    run(&mut group, &ten_members());
+    let lines = Picture::of(&group).all_lines(Style::for_output(false));
+    assert_eq!(lines.len(), 2 + 1 + 10);
+    assert_eq!(lines[0], "group   epoch 10, target epoch 0");
+    assert_eq!(lines[12], "  p9     w9      10     -      -           -");
+    let nobody = Picture::of(&Group::new(0)).all_lines(Style::for_output(false));
+    assert_eq!(nobody[0], "group   epoch 0, target epoch 0, no members");
+}

@@ -1,15 +1,18 @@
+use std::io;
+
 use super::*;
+use crate::host::Host;
 use crate::style::Style;
 
 /// What a script prints, and how it fails if it does.
 fn outcome(script: &[u8]) -> (String, Option<String>) {
     let mut out = Vec::new();
     let mut input = script;
-    let mut session = Session::new(&mut out, Style::for_output(false));
+    let mut session = Session::new(Host::in_memory(), &mut out, Style::for_output(false));
     let failure = match run("example", &mut input, &mut session) {
         Ok(()) => None,
         Err(Failure::Input(text)) => Some(text),
-        Err(Failure::Output(error)) => panic!("{error}"),
+        Err(failure) => panic!("{failure:?}"),
     };
     (String::from_utf8(out).unwrap(), failure)
 }
@@ -111,7 +114,7 @@ impl Write for Closed {
 
 #[test]
 fn output_that_closes_early_ends_the_run() {
-    let mut session = Session::new(Closed, Style::for_output(false));
+    let mut session = Session::new(Host::in_memory(), Closed, Style::for_output(false));
     let outcome = run("example", &mut &b"sweep\nsweep\n"[..], &mut session);
     let Err(Failure::Output(error)) = outcome else {
         panic!();

@@ -1,74 +1,22 @@
-//! The command as it is run: the built-in example byte for byte, scripts from files and pipes, and
-//! what it says of input that is wrong.
+//! Scripts: the built-in example byte for byte, files and pipes, and what is said of input that is
+//! wrong.
 
 use std::io::Write;
-use std::process::{Command, Output, Stdio};
+use std::process::Stdio;
 
-const WORKED_EXAMPLE: &str = include_str!("golden/worked_example.txt");
-const EXAMPLE: &str = include_str!("../src/example.txt");
-
-fn command(arguments: &[&str]) -> Command {
-    let mut command = Command::new(env!("CARGO_BIN_EXE_pankvisolo"));
-    command
-        .args(arguments)
-        .stdin(Stdio::null())
-        .stdout(Stdio::piped())
-        .stderr(Stdio::piped());
-    command
-}
-
-fn run(arguments: &[&str]) -> Output {
-    command(arguments).output().unwrap()
-}
-
-fn run_on_input(script: &[u8]) -> Output {
-    let mut child = command(&["-"]).stdin(Stdio::piped()).spawn().unwrap();
-    child.stdin.take().unwrap().write_all(script).unwrap();
-    child.wait_with_output().unwrap()
-}
-
-fn is_output(output: &Output, status: i32, out: &str, err: &str) {
-    assert_eq!(String::from_utf8_lossy(&output.stdout), out);
-    assert_eq!(String::from_utf8_lossy(&output.stderr), err);
-    assert_eq!(output.status.code(), Some(status));
-}
-
-fn script(name: &str) -> String {
-    format!("{}/tests/scripts/{name}", env!("CARGO_MANIFEST_DIR"))
-}
+use super::morning::{P1_TO_P12, PRINTED, SCRIPT};
+use super::running::*;
 
 #[test]
 fn the_built_in_example() {
-    is_output(&run(&[]), 0, WORKED_EXAMPLE, "");
+    is_output(&run(&[]), 0, PRINTED, "");
 }
 
 #[test]
 fn the_built_in_script_runs_from_a_pipe_as_well() {
-    is_output(&run(&["--example"]), 0, EXAMPLE, "");
-    is_output(&run_on_input(EXAMPLE.as_bytes()), 0, WORKED_EXAMPLE, "");
+    is_output(&run(&["--example"]), 0, SCRIPT, "");
+    is_output(&run_on(&["-"], SCRIPT.as_bytes()), 0, PRINTED, "");
 }
-
-/// P1 to P12 as 01 has them: the bytes, the answer's epoch and its slots.
-const P1_TO_P12: [(&str, &str); 12] = [
-    ("04 00 11* 03", "done"),
-    (
-        "05 00 01 AA* AC 02 01 03 01 08 00 01 00 00",
-        "epoch 1; none",
-    ),
-    ("07 00 03 00 01 01 06 01", "done"),
-    ("08 00 01 03 00 01 01 00", "epoch 1; t0:0-2"),
-    (
-        "05 01 01 BB* AC 02 01 03 02 08 01 02 00 00",
-        "epoch 2; none",
-    ),
-    ("07 00 02 00 01 07 01 01 02 06 02", "done"),
-    ("none", "epoch 2; none"),
-    ("08 00 01 02 00 01 01 02", "epoch 1; t0:0-1"),
-    ("none", "epoch 1; t0:0-1"),
-    ("08 00 02 02 00 01 00", "epoch 2; t0:0-1"),
-    ("08 01 02 01 02 00", "epoch 2; t0:2"),
-    ("none", "refused 1005 ALREADY"),
-];
 
 #[test]
 fn the_built_in_example_is_that_of_01() {
@@ -89,20 +37,6 @@ fn the_built_in_example_is_that_of_01() {
         };
         assert!(label("answer  ").unwrap().starts_with(&epoch), "{event}");
         assert_eq!(label("slots  "), slots, "{event}");
-    }
-}
-
-/// The README leaves out parts at [..] and has the others, in their order, as they are printed.
-#[test]
-fn the_readme_shows_what_is_printed() {
-    let readme = include_str!("../../../README.md");
-    let (_, excerpt) = readme.split_once("$ ./run\n").unwrap();
-    let (excerpt, _) = excerpt.split_once("```").unwrap();
-    let mut rest = WORKED_EXAMPLE;
-    for part in excerpt.split("[..]\n").filter(|part| !part.is_empty()) {
-        let shown = rest.split_once(part);
-        assert!(shown.is_some(), "{part}");
-        rest = shown.unwrap().1;
     }
 }
 
@@ -158,7 +92,7 @@ fn a_wrong_line_of_standard_input() {
                ^^^^
     expected a whole number from 0 to 4294967295
 ";
-    is_output(&run_on_input(b"sweep tick soon\nsweep\n"), 2, "", err);
+    is_output(&run_on(&["-"], b"sweep tick soon\nsweep\n"), 2, "", err);
 }
 
 #[test]
@@ -174,9 +108,9 @@ fn files_that_are_none() {
 #[test]
 fn arguments_that_are_none() {
     let err = "pankvisolo: there is no option '--halp'; \
-               expected a file name, -, --help, --version or --example\n";
+               expected a file name, -, read, --journal, --help, --version or --example\n";
     is_output(&run(&["--halp"]), 2, "", err);
-    let err = "pankvisolo: one argument at most, and 'b' is a second; try --help\n";
+    let err = "pankvisolo: 'b' is one argument too many; try --help\n";
     is_output(&run(&["a", "b"]), 2, "", err);
 }
 
@@ -185,7 +119,7 @@ fn help_explains_every_event_and_ends_with_the_example() {
     let output = run(&["--help"]);
     assert_eq!(output.status.code(), Some(0));
     let help = String::from_utf8(output.stdout).unwrap();
-    assert!(help.ends_with(EXAMPLE));
+    assert!(help.ends_with(SCRIPT));
     for word in [
         "fresh ",
         "topic ",
@@ -199,6 +133,9 @@ fn help_explains_every_event_and_ends_with_the_example() {
         "length ",
         "--version",
         "--example",
+        "--journal ",
+        "--tick ",
+        "read ",
     ] {
         assert!(help.contains(word), "{word}");
     }
