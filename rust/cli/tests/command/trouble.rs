@@ -197,7 +197,7 @@ fn a_batch_that_cannot_be_stored() {
     )));
     let err = String::from_utf8_lossy(&output.stderr);
     let begins =
-        format!("pankvisolo: group.journal: the batch at byte {end} could not be stored, ");
+        format!("pankvisolo: group.journal: the batch at offset {end} could not be stored, ");
     assert!(
         err.starts_with(&begins) && err.contains("File too large"),
         "{err}"

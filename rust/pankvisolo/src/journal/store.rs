@@ -165,7 +165,7 @@ impl Store {
         };
         let stored = self.file.write_all_at(&batch[..length], self.end);
         if let Err(error) = stored.and_then(|()| self.file.sync_data()) {
-            let what = format!("the batch at byte {} could not be stored", self.end);
+            let what = format!("the batch at offset {} could not be stored", self.end);
             self.failed = Some(format!("{what}: {error}"));
             let what = format!("{what}, and nothing is served until the journal is opened again");
             return Err(failed(&self.path, what, error));
@@ -226,7 +226,7 @@ impl Locked {
 /// Cuts the torn tail off; synced before anything is stored.
 fn cut(path: &Path, file: &File, end: u64) -> io::Result<()> {
     let cut = file.set_len(end).and_then(|()| file.sync_data());
-    let what = format!("the journal's torn tail, from byte {end} on, cannot be cut off");
+    let what = format!("the journal's torn tail, from offset {end} on, cannot be cut off");
     cut.map_err(|error| failed(path, what, error))
 }
 
@@ -265,7 +265,7 @@ fn refused(path: &Path, offset: usize) -> io::Error {
     };
     io::Error::new(
         ErrorKind::InvalidData,
-        format!("{path}: the journal is refused at byte {offset}: {what}; it is left as it is"),
+        format!("{path}: the journal is refused at offset {offset}: {what}; it is left as it is"),
     )
 }
 

@@ -27,7 +27,7 @@ fn is_refused(folder: &Folder, name: &str, file: &[u8], offset: usize, why: &str
     let written = fs::metadata(&path)
         .and_then(|data| data.modified())
         .unwrap();
-    let said = format!("the journal is refused at byte {offset}: {why}; it is left as it is");
+    let said = format!("the journal is refused at offset {offset}: {why}; it is left as it is");
     assert_eq!(error(&path), (ErrorKind::InvalidData, said), "{name}");
     assert_eq!(fs::read(&path).unwrap(), file, "{name}");
     let now = fs::metadata(&path).and_then(|data| data.modified());

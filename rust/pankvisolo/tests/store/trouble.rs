@@ -51,7 +51,7 @@ fn joins_until_full(path: &Path) {
     };
     let said = error.to_string();
     let end = before.len();
-    let begins = format!("group.journal: the batch at byte {end} could not be stored, and nothing is served until the journal is opened again: File too large");
+    let begins = format!("group.journal: the batch at offset {end} could not be stored, and nothing is served until the journal is opened again: File too large");
     assert!(said.starts_with(&begins), "{said}");
     assert_eq!(error.kind(), ErrorKind::FileTooLarge);
     assert!(list.iter().all(|&entry| entry == BEFORE));
@@ -90,7 +90,7 @@ fn serves_nothing(store: &mut Store, end: usize) {
         store.topic(99, [0; 16], 0),
         store.install(0, &[]),
     ];
-    let begins = format!("group.journal: nothing is served until the journal is opened again, because the batch at byte {end} could not be stored: File too large");
+    let begins = format!("group.journal: nothing is served until the journal is opened again, because the batch at offset {end} could not be stored: File too large");
     for error in errors {
         let said = error.unwrap_err().to_string();
         assert!(said.starts_with(&begins), "{said}");

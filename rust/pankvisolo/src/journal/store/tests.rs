@@ -39,7 +39,7 @@ fn serves_nothing(mut store: Store, stored: Vec<u8>, kind: ErrorKind, why: &str)
     let path = store.path.display().to_string();
     let error = store.heartbeat(&join(), &mut []).unwrap_err();
     assert_eq!(error.kind(), kind);
-    let what = format!("the batch at byte {} could not be stored", stored.len());
+    let what = format!("the batch at offset {} could not be stored", stored.len());
     let until = "nothing is served until the journal is opened again";
     assert_eq!(
         error.to_string(),
