@@ -106,7 +106,7 @@ pub fn find(members: &[u32; CELLS], id: Id) -> Found
 pub fn find_vacant(members: &[u32; CELLS]) -> Found
     ensures { λ r. ⌜ Finds (any vacant (viewMembers (now (members .entry)))) (find vacant (viewMembers (now (members .entry)))) r ⌝ }
 {
-    found(search::find(members, 0, 0, 0, 0))
+    found(search::free::find(members))
 }
 
 // The seat at a place.

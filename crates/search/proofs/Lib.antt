@@ -1,3 +1,4 @@
 pub mod Counting
+pub mod Freeing
 pub mod Placing
 pub mod SlotSets

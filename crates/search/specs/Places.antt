@@ -6,6 +6,7 @@ use mathlib.Core.List.{List, [], _∷_}
 use lib.Dec.{eqb}
 use lib.ListN.{getD}
 use Rattle.rules.specs.Constants.{maxMembers}
+use Rattle.slots.specs.Set.{bit}
 
 -- with the columns of what else a member has
 abbrev pub columnCount : ℕ
@@ -34,6 +35,20 @@ pub record FirstIn (f : ℕ → Bool) (from r : ℕ) : Type 0 where
   pub most : r ≤ from + step
   pub before : (k : ℕ) → from ≤ k → k < r → f k ≡ false
   pub there : r < from + step → f r ≡ true
+
+-- ---- places in words of 64 bits
+
+-- so many words, and so many places in each
+abbrev pub placeWords : ℕ
+placeWords = (maxMembers + 63) / 64
+
+abbrev pub wordPlaces : ℕ
+wordPlaces = maxMembers / placeWords
+
+-- the ones of a word are those of its places, from `from` on, that pass
+pub record Marks (f : ℕ → Bool) (from word : ℕ) : Type 0 where
+  pub here : (i : ℕ) → i < wordPlaces → bit word i ≡ f (from + i)
+  pub past : (i : ℕ) → wordPlaces ≤ i → bit word i ≡ false
 
 -- ---- an ID of sixteen bytes as four words: the first column has the sum of the words, which stands for the first of them
 

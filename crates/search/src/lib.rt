@@ -8,6 +8,7 @@ ghost use Rattle.search.specs.Occurrences.{occurs};
 ghost use Rattle.search.specs.Places.{cellCount, step, matches, First, FirstIn};
 use rules::MEMBERS;
 
+pub mod free; // free.rt: the lowest free place
 pub mod rising; // rising.rt: whether a list is a set of slots
 
 // The columns of the members, each with an entry for each place: the four words of the ID come first. Column c of place k is entry k + c * MEMBERS.

@@ -2,6 +2,6 @@ pub mod Bits
 pub mod Words
 pub mod Selecting
 pub mod Next
-pub mod Comparing
+pub mod Counting
 pub mod Gathering
 pub mod Each

@@ -1,6 +1,6 @@
 -- The rising list of the numbers that a test picks, by `select`: its first number, its length, which numbers it has, and that numbers that are not picked
 -- are stepped over.
-use mathlib.Core.Path.{_≡_, sym, ap, _∙_}
+use mathlib.Core.Path.{_≡_, refl, sym, ap, _∙_}
 use mathlib.Core.Bool.{Bool, true, false}
 use mathlib.Core.List.{List, _∷_}
 use Prim.Native.Nat.{ℕ, zero, suc, _+_, _-_, _≤_, _<_}
@@ -10,9 +10,9 @@ use native.Mathlib.Numerals.{add-one}
 use native.Mathlib.Omega.{arith}
 use lib.Dec.{eqb}
 use lib.ListN.{length}
-use Rattle.rules.specs.Basics.{if_then_else_, any, keep, upTo}
+use Rattle.rules.specs.Basics.{if_then_else_, any, keep, same, upTo}
 use Rattle.rules.specs.Constants.{slotCount}
-use Rattle.rules.proofs.Lists.{keep-ext, keep-has}
+use Rattle.rules.proofs.Lists.{keep-ext, keep-has, same-eq}
 use Rattle.slots.specs.Set.{has, select, slotsOf, NextFrom}
 
 -- the first of the numbers that are left is picked, or is not
@@ -75,3 +75,11 @@ slots-are ws f h = keep-ext (has ws) f 0 slotCount (λ s p q. h s (omega arith))
 pub slots-have : (ws : List ℕ) (s : ℕ) → s < slotCount → any (eqb s) (slotsOf ws) ≡ has ws s
 unfolding slotsOf
 slots-have ws s h = keep-has (has ws) slotCount 0 s (omega arith) (omega arith)
+
+-- two sets that differ at a slot have different lists
+pub unlike : (a b : List ℕ) (s : ℕ) → s < slotCount → (has a s ≡ has b s → ⊥) → same (slotsOf a) (slotsOf b) ≡ false
+unlike a b s h d = go (same (slotsOf a) (slotsOf b)) refl
+  where
+    go : (x : Bool) → same (slotsOf a) (slotsOf b) ≡ x → x ≡ false
+    go true e = absurd (d (sym (slots-have a s h) ∙ ap (any (eqb s)) (same-eq (slotsOf a) (slotsOf b) e) ∙ slots-have b s h))
+    go false e = refl

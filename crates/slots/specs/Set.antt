@@ -1,9 +1,9 @@
 -- Sets of slots. A set is kept as words of 64 bits: slot s is bit s % 64 of word s / 64.
 use mathlib.Core.Path.{_≡_}
-use mathlib.Core.Bool.{Bool, true, false, _&&_, _||_}
+use mathlib.Core.Bool.{Bool, true, false}
 use mathlib.Core.List.{List}
 use Prim.Native.Nat.{ℕ, _/_, _%_, _^_, _≤_, _<_}
-use lib.Dec.{eqb, ltb}
+use lib.Dec.{eqb}
 use lib.ListN.{getD}
 use Rattle.rules.specs.Basics.{keep, upTo}
 use Rattle.rules.specs.Constants.{slotCount}
@@ -19,10 +19,6 @@ bit w i = eqb (w / 2 ^ i % 2) 1
 -- slot s is in the set
 abbrev pub has : List ℕ → ℕ → Bool
 has ws s = bit (getD ws (s / 64) 0) (s % 64)
-
--- slot s is in the set after n is added; a number that is no slot adds nothing
-abbrev pub hasWith : List ℕ → ℕ → ℕ → Bool
-hasWith ws n s = has ws s || (eqb s n && ltb n slotCount)
 
 -- those of the n numbers from b on that f picks, in rising order
 abbrev pub select : (ℕ → Bool) → ℕ → ℕ → List ℕ

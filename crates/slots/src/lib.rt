@@ -2,12 +2,12 @@
 // the slots, `slotsOf`.
 ghost use mathlib.Core.Path.{_≡_};
 ghost use mathlib.Core.Bool.{false, not, _&&_, _||_};
-ghost use Prim.Native.Nat.{ℕ, _≤_, _<_};
+ghost use Prim.Native.Nat.{ℕ, _%_, _≤_};
+ghost use lib.Dec.{eqb};
 ghost use lib.ListN.{length, getD};
-ghost use Rattle.rules.specs.Basics.{same};
 ghost use Rattle.rules.specs.Constants.{noPlace};
 ghost use Rattle.numbers.specs.Buffer.{Wrote};
-ghost use Rattle.slots.specs.Set.{has, hasWith, slotsOf, TellsEmpty, TellsSubset, NextFrom};
+ghost use Rattle.slots.specs.Set.{bit, has, slotsOf, TellsEmpty, TellsSubset, NextFrom};
 use rules::NO_PLACE;
 use rules::SLOT_END;
 use rules::Slot;
@@ -39,21 +39,6 @@ impl SlotSet {
             return (w >> b) % 2 == 1;
         }
         false
-    }
-
-    // The set with `slot` added; with a number of 1024 or more, the set as it is.
-    pub fn insert(self, slot: Slot) -> SlotSet
-        ensures { λ r. ⌜ ((s : ℕ) → has (r .words) s ≡ hasWith (self .words) (slot .0) s) ⌝ }
-    {
-        let n = slot.0;
-        if n < SLOT_END {
-            let i = (n / 64) as usize;
-            let b = n % 64;
-            let mut r = self;
-            r.words[i] = r.words[i] | (1u64 << b);
-            return r;
-        }
-        self
     }
 
     // The slots of either set.
@@ -115,28 +100,26 @@ impl SlotSet {
         self.difference(other).is_empty()
     }
 
-    // Whether both sets have the same slots.
-    pub fn same_as(self, other: SlotSet) -> bool
-        ensures { λ r. ⌜ r ≡ same (slotsOf (self .words)) (slotsOf (other .words)) ⌝ }
-    {
-        if self.is_subset(other) {
-            return other.is_subset(self);
-        }
-        false
-    }
-
-    // The number of slots, by a step for each.
+    // The number of slots: the machine's counts of ones, over the words.
     pub fn count(self) -> u32
         ensures { λ r. ⌜ r ≡ length (slotsOf (self .words)) ⌝ }
     {
         let mut n: u32 = 0;
-        let mut s = self.next(0);
-        while s < SLOT_END {
-            n += 1;
-            s = self.next(s + 1);
+        for word in 0..WORDS {
+            n += u64::count_ones(self.words[word]);
         }
         n
     }
+}
+
+// A word with the bit of number n put in where `on`.
+pub fn mark(word: u64, n: usize, on: bool) -> u64
+    ensures { λ r. ⌜ ((i : ℕ) → bit r i ≡ (bit word i || (eqb i (n % 64) && on))) ⌝ }
+{
+    if on {
+        return word | (1u64 << (n % 64));
+    }
+    word
 }
 
 // Writes the slots of the set, in rising order, at the start of `out`, and leaves the rest of it alone. Returns how many there are.

@@ -17,7 +17,7 @@ use Rattle.rules.specs.Effects.{waits, strays, advanced, frees, freed, afterFre
 use Rattle.rules.proofs.Lists.{or-false, and-true, same-refl}
 use Rattle.slots.specs.Set.{has, slotsOf, wordCount}
 use Rattle.slots.proofs.Words.{has-past}
-use Rattle.slots.proofs.Comparing.{unlike}
+use Rattle.slots.proofs.Selecting.{unlike}
 use Rattle.tables.specs.Gathers.{Picks, Gathers}
 use Rattle.tables.specs.Advances.{someSlot, freesSet, waitsOn, strayIn, freeIn, assignedAfter, revokingAfter, AdvancesSets, Advances}
 use Rattle.tables.specs.declared.gathering.PlaceSets.{PlaceSets}

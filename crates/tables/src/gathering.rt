@@ -1,9 +1,4 @@
 // What one pass over the tables tells of a place, as sets of slots.
-ghost use mathlib.Core.Path.{_≡_};
-ghost use mathlib.Core.Bool.{_&&_, _||_};
-ghost use Prim.Native.Nat.{ℕ, _<_};
-ghost use lib.Dec.{eqb};
-ghost use Rattle.slots.specs.Set.{bit};
 ghost use Rattle.tables.specs.View.{slotsBefore};
 ghost use Rattle.tables.specs.Gathers.{Gathers};
 use crate::bools::both;
@@ -19,17 +14,6 @@ pub struct PlaceSets {
     pub revoking: SlotSet,
     pub target: SlotSet,
     pub claimable: SlotSet,
-}
-
-// The word with bit b put in where `on`.
-fn mark(word: u64, b: u64, on: bool) -> u64
-    requires { ⌜ b < 64 ⌝ }
-    ensures { λ r. ⌜ ((i : ℕ) → bit r i ≡ (bit word i || (eqb i b && on))) ⌝ }
-{
-    if on {
-        return word | (1u64 << b);
-    }
-    word
 }
 
 // The sets of the place p, by one pass over the tables.
@@ -49,14 +33,13 @@ pub fn gather<'a>(
     let mut s = crate::searching::next_near(target, holder, p, 0);
     while s < SLOTS {
         let k = s / 64;
-        let b = (s % 64) as u64;
         let h = holder[s];
         let w = waiting[s];
         let t = target[s];
-        assigned[k] = mark(assigned[k], b, both(h == p.0, !w));
-        revoking[k] = mark(revoking[k], b, both(h == p.0, w));
-        targets[k] = mark(targets[k], b, t == p.0);
-        claimable[k] = mark(claimable[k], b, both(t == p.0, h == NO_PLACE));
+        assigned[k] = slots::mark(assigned[k], s, both(h == p.0, !w));
+        revoking[k] = slots::mark(revoking[k], s, both(h == p.0, w));
+        targets[k] = slots::mark(targets[k], s, t == p.0);
+        claimable[k] = slots::mark(claimable[k], s, both(t == p.0, h == NO_PLACE));
         s = crate::searching::next_near(target, holder, p, s + 1);
     }
     PlaceSets {

@@ -1,79 +1,63 @@
--- The slots counted and those from s on are all there are; the slots between one and the next are stepped over.
-use mathlib.Core.Path.{_≡_, sym, ap, _∙_}
-use mathlib.Core.Bool.{true}
-use Prim.Native.Nat.{_+_, _-_, _≤_, _<_}
-use native.Mathlib.Nat.{zero-add, add-zero}
+-- The ones of the words passed are the slots below the next word's (`word-more`).
+use mathlib.Core.Path.{_≡_, refl, sym, ap, _∙_}
+use Prim.Native.Nat.{ℕ, _+_, _-_, _*_, _≤_}
 use native.Mathlib.Omega.{arith}
-use lib.ListN.{length}
+use lib.Count.{ones, ones-le}
+use lib.ListN.{length, getD}
+use mir.Syntax.{w64}
+use mir.Val.{Fits}
+use borrow.Author.Needs.{needs}
 use Rattle.rules.specs.Basics.{keep, upTo}
-use Rattle.rules.specs.Constants.{slotCount}
-use Rattle.slots.specs.Set.{has, select, slotsOf}
-use Rattle.slots.proofs.Selecting.{select-in, next-ahead, next-skips, slots-le}
+use Rattle.slots.specs.Set.{has, select, slotsOf, wordCount}
+use Rattle.slots.proofs.Selecting.{select-le}
+use Rattle.slots.proofs.Counting.{word-more}
 use Rattle.slots.proofs.SlotSet.count.Statement.{statement}
 use Rattle.slots.proofs.SlotSet.count.Tie as tie
 
 abbrev Inv-loop : tie.InvT-loop
-Inv-loop self n₀ s₀ n s =
-    (s ≤ slotCount) × (s < slotCount → has (self .words) s ≡ true)
-    × (n + length (select (has (self .words)) s (slotCount - s)) ≡ length (slotsOf (self .words)))
+Inv-loop self n₀ word₀ n word = (word ≤ wordCount) × (n ≡ length (select (has (self .words)) 0 (word * 64)))
 
 abbrev μ-loop : tie.MeasureT-loop
-μ-loop self n₀ s₀ n s = slotCount - s
-
--- at a slot of the set, one is counted and the rest comes after it
-abbrev Rest : tie.At-loop Inv-loop μ-loop → Type 0
-Rest c =
-    let ws = c .before .before .args .self .words in
-    let l = c .loop in
-    l .n + (1 + length (select (has ws) (l .s + 1) (slotCount - (l .s + 1)))) ≡ length (slotsOf ws)
-
-rest : (c : tie.In-loop Inv-loop μ-loop) → Rest (c .before)
-rest c =
-    let l = c .before .loop in
-    let ws = c .before .before .before .args .self .words in
-    let e : length (select (has ws) (l .s) (slotCount - l .s)) ≡ 1 + length (select (has ws) (l .s + 1) (slotCount - (l .s + 1))) =
-    ap length (select-in (has ws) (l .s) slotCount (omega arith) (l .inv .1 (omega arith))) ∙ omega arith in
-    omega (arith, l .inv .2)
-
-next-requires : tie.Need-next-requires Inv-loop μ-loop
-next-requires c κs = tt
+μ-loop self n₀ word₀ n word = wordCount - word
 
 loop-holds : tie.Need-loop-holds Inv-loop μ-loop
-unfolding slotsOf
-loop-holds c =
-    let e = c .next .ensures in
-    let ws = c .before .args .self .words in
-    (e .0, λ h. e .2 h .1, zero-add _ ∙ ap length (sym (next-skips ws 0 (c .next .result) (omega arith) e)))
+unfolding keep upTo
+loop-holds c = (omega arith, refl)
+
+mul-n : tie.Need-mul-n Inv-loop μ-loop
+mul-n c = omega arith
+
+element-copy-out-n : tie.Need-element-copy-out-n Inv-loop μ-loop
+element-copy-out-n c = search needs
 
 add-n : tie.Need-add-n Inv-loop μ-loop
-add-n c = omega (arith, rest c, slots-le (c .before .before .before .args .self .words))
+add-n c =
+    let l = c .before .before .loop in
+    let ws = c .before .before .before .args .t1 .words in
+    let f : Fits w64 (getD ws (l .word) 0) = search needs in
+    omega (arith, ones-le 64 (getD ws (l .word) 0) (f .fits), l .inv .1, select-le (has ws) 0 (l .word * 64))
 
-add-next : tie.Need-add-next Inv-loop μ-loop
-add-next c = omega arith
-
-next-requires-2 : tie.Need-next-requires-2 Inv-loop μ-loop
-next-requires-2 c κs = tt
+add-word : tie.Need-add-word Inv-loop μ-loop
+add-word c = omega arith
 
 loop-less : tie.Need-loop-less Inv-loop μ-loop
-loop-less c =
-    let l = c .before .before .loop in
-    omega (arith, next-ahead (c .before .before .before .before .args .self .words) (l .s + 1) (c .next2 .result) (omega arith) (c .next2 .ensures))
+loop-less c = omega arith
 
 loop-again : tie.Need-loop-again Inv-loop μ-loop
 loop-again c =
-    let e = c .next2 .ensures in
     let l = c .before .before .loop in
-    let ws = c .before .before .before .before .args .self .words in
-    let k = ap length (next-skips ws (l .s + 1) (c .next2 .result) (omega arith) e) in
-    (e .0, λ h. e .2 h .1, omega (arith, rest (c .before), k))
+    let ws = c .before .before .before .args .t1 .words in
+    let f : Fits w64 (getD ws (l .word) 0) = search needs in
+    (omega arith, ap (λ (n : ℕ). n + ones (getD ws (l .word) 0)) (l .inv .1) ∙ sym (word-more ws (l .word) (f .fits)))
 
 returns : tie.Need-returns Inv-loop μ-loop
-unfolding keep upTo
+unfolding slotsOf
 returns c =
     let l = c .before .loop in
-    let e : l .s ≡ slotCount = omega arith in
-    sym (add-zero (l .n)) ∙ (rw e at (l .inv .2))
+    let ws = c .before .before .args .t1 .words in
+    let e : l .word ≡ wordCount = omega arith in
+    l .inv .1 ∙ ap (λ (k : ℕ). length (select (has ws) 0 (k * 64))) e
 
 pub count-spec : {M : Type 1} → statement M
 count-spec =
-    tie.close (tie.spec Inv-loop μ-loop next-requires loop-holds add-n add-next next-requires-2 loop-less loop-again returns)
+    tie.close (tie.spec Inv-loop μ-loop loop-holds mul-n element-copy-out-n add-n add-word loop-less loop-again returns)

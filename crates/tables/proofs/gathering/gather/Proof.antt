@@ -54,7 +54,7 @@ both-requires : tie.Need-both-requires Inv-loop μ-loop
 both-requires c κs = tt
 
 mark-requires : tie.Need-mark-requires Inv-loop μ-loop
-mark-requires c κs = omega arith
+mark-requires c κs = tt
 
 mul-assigned : tie.Need-mul-assigned Inv-loop μ-loop
 mul-assigned c = omega arith
@@ -72,7 +72,7 @@ both-requires-2 : tie.Need-both-requires-2 Inv-loop μ-loop
 both-requires-2 c κs = tt
 
 mark-requires-2 : tie.Need-mark-requires-2 Inv-loop μ-loop
-mark-requires-2 c κs = omega arith
+mark-requires-2 c κs = tt
 
 mul-revoking : tie.Need-mul-revoking Inv-loop μ-loop
 mul-revoking c = omega arith
@@ -87,7 +87,7 @@ array-read-mark-3 : tie.Need-array-read-mark-3 Inv-loop μ-loop
 array-read-mark-3 c = omega arith
 
 mark-requires-3 : tie.Need-mark-requires-3 Inv-loop μ-loop
-mark-requires-3 c κs = omega arith
+mark-requires-3 c κs = tt
 
 mul-targets : tie.Need-mul-targets Inv-loop μ-loop
 mul-targets c = omega arith
@@ -105,7 +105,7 @@ both-requires-3 : tie.Need-both-requires-3 Inv-loop μ-loop
 both-requires-3 c κs = tt
 
 mark-requires-4 : tie.Need-mark-requires-4 Inv-loop μ-loop
-mark-requires-4 c κs = omega arith
+mark-requires-4 c κs = tt
 
 mul-claimable : tie.Need-mul-claimable Inv-loop μ-loop
 mul-claimable c = omega arith
