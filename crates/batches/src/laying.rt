@@ -38,10 +38,10 @@ fn give(entries: &mut [u8; SLOTS], p: u8, slots: SlotSet)
     requires { ⌜ length (now entries) ≡ slotCount ⌝ }
     ensures { λ r. ⌜ Replaces (λ k x. if has (slots .words) k then p else x) (now (entries .entry)) (now (entries .exit)) ⌝ }
 {
-    let mut s = slots.next(0);
-    while s < SLOT_END {
-        entries[s as usize] = p;
-        s = slots.next(s + 1);
+    let mut s = slots.first();
+    while s.slot < SLOT_END {
+        entries[s.slot as usize] = p;
+        s = slots.after(s);
     }
 }
 

@@ -16,7 +16,7 @@ use Rattle.rules.specs.Constants.{slotCount}
 use Rattle.rules.specs.Reader.{Reader, andThen, pure, refuse, _>>=_}
 use Rattle.rules.proofs.Lists as rules-lists
 use Rattle.slots.specs.Set.{has, select, slotsOf, wordCount}
-use Rattle.slots.proofs.Selecting.{select-skip}
+use Rattle.slots.proofs.Selecting.{select-skip, select-split}
 use Rattle.slots.proofs.Words.{has-mark, bit-put}
 use Rattle.reading.specs.Narrow.{number32, slotFrom, risingSlots}
 use Rattle.reading.specs.Places.{readAt, Reads}
@@ -24,16 +24,6 @@ use Rattle.reading.specs.Views.{beyond}
 use Rattle.reading.proofs.Places.{read-refused, finds-none, then-at}
 
 -- ---- picks
-
-if-append : (b : Bool) (x : ℕ) (l r : List ℕ) → (if b then x ∷ (l ++ r) else (l ++ r)) ≡ (if b then x ∷ l else l) ++ r
-if-append true x l r = refl
-if-append false x l r = refl
-
-select-split : (f : ℕ → Bool) (b m n : ℕ) → select f b (m + n) ≡ select f b m ++ select f (b + m) n
-unfolding keep upTo
-select-split f b zero n = rw (add-zero b, zero-add n)
-select-split f b (suc m) n =
-    rw (suc-add m n, add-suc b m, select-split f (suc b) m n, suc-add b m) (if-append (f b) b (select f (suc b) m) (select f (suc (b + m)) n))
 
 split-at : (f : ℕ → Bool) (m n : ℕ) → m ≤ n → select f 0 n ≡ select f 0 m ++ select f m (n - m)
 split-at f m n h =

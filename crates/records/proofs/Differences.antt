@@ -1,18 +1,16 @@
 -- Laws of `differences` over the slots that a test picks. At a slot that is picked its difference comes next, and then the differences from there
 -- (`differences-next`, `run-next`); slots that are not picked are stepped over by `select-skip`.
-use mathlib.Core.Path.{_≡_, refl, ap, _∙_}
+use mathlib.Core.Path.{_≡_, ap, _∙_}
 use mathlib.Core.Bool.{Bool, true, false}
-use mathlib.Core.List.{List, [], _∷_, _++_}
-use Prim.Native.Nat.{ℕ, zero, suc, _+_, _-_, _*_, _^_, _≤_, _<_}
+use mathlib.Core.List.{List, [], _∷_, _++_, append-nil}
+use Prim.Native.Nat.{ℕ, _+_, _-_, _<_}
 use native.Mathlib.Omega.{arith}
 use lib.ListN.{length, length-append}
-use Rattle.rules.specs.Basics.{if_then_else_, keep, upTo}
 use Rattle.rules.specs.Constants.{slotCount}
 use Rattle.rules.specs.Records.{number, differences, setBytes}
-use Rattle.rules.proofs.Number.{number-le}
 use Rattle.numbers.proofs.Writing.{Writing, cut}
 use Rattle.slots.specs.Set.{select, has, slotsOf}
-use Rattle.slots.proofs.Selecting.{select-in, slots-are}
+use Rattle.slots.proofs.Selecting.{select-in, select-none}
 
 module _ (f : ℕ → Bool) (p s n : ℕ) (h : s < n) (e : f s ≡ true) where
   pub differences-next : differences p (select f s (n - s)) ≡ number (s - p) ++ differences s (select f (s + 1) (n - (s + 1)))
@@ -26,25 +24,15 @@ module _ (f : ℕ → Bool) (p s n : ℕ) (h : s < n) (e : f s ≡ true) where
       → Writing w b buf at (number (s - p) ∷ differences s (select f (s + 1) (n - (s + 1))) ∷ us)
   run-next = cut differences-next
 
--- at most two bytes for each slot that is looked at: a difference is below 2 ^ 14
-pub differences-le : (f : ℕ → Bool) (p s n : ℕ) → s + n ≤ 128 ^ 2 → length (differences p (select f s n)) ≤ 2 * n
-unfolding differences keep upTo
-differences-le f p s zero h = omega arith
-differences-le f p s (suc n) h = go (f s) (select f (suc s) n) (λ q. differences-le f q (suc s) n (omega arith))
-  where
-    go : (b : Bool) (l : List ℕ) → ((q : ℕ) → length (differences q l) ≤ 2 * n) → length (differences p (if b then s ∷ l else l)) ≤ 2 * suc n
-    go true l ih = rw length-append (omega (arith, number-le 1 (s - p) (omega arith), ih s))
-    go false l ih = omega (arith, ih p)
-
 pub set-length : (l : List ℕ) → length (setBytes l) ≡ length (number (length l)) + length (differences 0 l)
 unfolding setBytes
 set-length l = length-append (number (length l)) (differences 0 l)
 
 -- a set that has no slot
-none-picked : (n b : ℕ) → select (λ _. false) b n ≡ []
-unfolding keep upTo
-none-picked zero b = refl
-none-picked (suc n) b = none-picked n (suc b)
-
 pub slots-none : (ws : List ℕ) → ((s : ℕ) → has ws s ≡ false) → slotsOf ws ≡ []
-slots-none ws h = slots-are ws (λ _. false) (λ s _. h s) ∙ none-picked slotCount 0
+unfolding slotsOf
+slots-none ws h = select-none (has ws) 0 slotCount (omega arith) (λ s _ _. h s)
+
+pub none-bytes : (ws : List ℕ) → ((s : ℕ) → has ws s ≡ false) → setBytes (slotsOf ws) ≡ number 0
+unfolding setBytes differences
+none-bytes ws h = ap setBytes (slots-none ws h) ∙ append-nil (number 0)

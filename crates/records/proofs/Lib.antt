@@ -1,3 +1,4 @@
 pub mod Parts
 pub mod Differences
+pub mod Extra
 pub mod Lists

@@ -133,13 +133,6 @@ pub fn put_target_epoch(buf: &mut [u8], epoch: u32) -> usize
     put_two(buf, 6, epoch)
 }
 
-// How many bytes record 6 takes.
-pub fn target_epoch_len(epoch: u32) -> usize
-    ensures { λ r. ⌜ (r ≡ length (bytesOf (targetEpoch epoch))) × (r ≤ 6) ⌝ }
-{
-    1 + numbers::number_len(epoch) // the kind, 6, takes one byte
-}
-
 // The front of record 7: the kind, the place and how many slots it has. The slots follow, by their differences.
 pub fn put_target_front(buf: &mut [u8], place: Place, count: u32) -> usize
     requires { ⌜ length (targetFront (place .0) count) ≤ length (now buf) ⌝ }

@@ -2,16 +2,17 @@
 -- machine counts ones in it (`word-more`).
 use mathlib.Core.Path.{_≡_, refl, sym, ap, _∙_}
 use mathlib.Core.Bool.{Bool, true, false}
-use mathlib.Core.List.{List, _∷_}
+use mathlib.Core.List.{List, _∷_, _++_}
 use Prim.Native.Nat.{ℕ, zero, suc, _+_, _*_, _/_, _%_, _^_, _<_}
 use native.Mathlib.Nat.{add-zero, mod-lt, pow-suc, zero-add}
 use native.Mathlib.Omega.{arith}
 use lib.Count.{ones, ones-step}
 use lib.Dec.{eqb, lit<}
-use lib.ListN.{length, getD}
+use lib.ListN.{length, getD, length-append}
 use Rattle.rules.specs.Basics.{if_then_else_, keep, upTo}
 use Rattle.slots.specs.Set.{bit, has, select}
 use Rattle.slots.proofs.Bits.{bit-low, bit-suc}
+use Rattle.slots.proofs.Selecting.{select-split}
 
 -- of n numbers from b on, f picks those at the positions of a word whose bit is set: as many as the word has ones
 pub ones-are : (f : ℕ → Bool) (b n w : ℕ) → w < 2 ^ n → ((i : ℕ) → i < n → f (b + i) ≡ bit w i) → length (select f b n) ≡ ones w
@@ -32,34 +33,21 @@ ones-are f b (suc n) w h e =
         rw x (omega (arith, ih, ones-step w, p))
     go (suc (suc d)) h p q ih = absurd (omega arith)
 
--- the numbers that f picks, counted in two parts
-count-split : (f : ℕ → Bool) (b m n : ℕ) → length (select f b (m + n)) ≡ length (select f b m) + length (select f (b + m) n)
-unfolding keep upTo
-count-split f b zero n =
-    let e : 0 + n ≡ n = zero-add n in
-    let z : b + 0 ≡ b = add-zero b in
-    rw (e, z) (sym (zero-add (length (select f b n))))
-count-split f b (suc m) n =
-    let e : suc m + n ≡ suc (m + n) = omega arith in
-    let z : b + suc m ≡ suc b + m = omega arith in
-    rw (e, z) (go (f b) _ _ (count-split f (suc b) m n))
-  where
-    go : (x : Bool) (k l : List ℕ) → length k ≡ length l + length (select f (suc b + m) n)
-        → length (if x then b ∷ k else k) ≡ length (if x then b ∷ l else l) + length (select f (suc b + m) n)
-    go true k l ih = omega (arith, ih)
-    go false k l ih = ih
+-- the bits of word i are its slots
+pub in-word : (ws : List ℕ) (i j : ℕ) → j < 64 → has ws (i * 64 + j) ≡ bit (getD ws i 0) j
+in-word ws i j h =
+    let a : (i * 64 + j) / 64 ≡ i = omega arith in
+    let b : (i * 64 + j) % 64 ≡ j = omega arith in
+    rw (a, b)
 
 -- one word more
+pub select-word : (f : ℕ → Bool) (i : ℕ) → select f 0 ((i + 1) * 64) ≡ select f 0 (i * 64) ++ select f (i * 64) 64
+select-word f i =
+    let e : (i + 1) * 64 ≡ i * 64 + 64 = omega arith in
+    ap (select f 0) e ∙ select-split f 0 (i * 64) 64 ∙ ap (λ (b : ℕ). select f 0 (i * 64) ++ select f b 64) (zero-add (i * 64))
+
 pub word-more : (ws : List ℕ) (i : ℕ) → getD ws i 0 < 2 ^ 64
     → length (select (has ws) 0 ((i + 1) * 64)) ≡ length (select (has ws) 0 (i * 64)) + ones (getD ws i 0)
 word-more ws i h =
-    let e : (i + 1) * 64 ≡ i * 64 + 64 = omega arith in
-    let z : 0 + i * 64 ≡ i * 64 = zero-add (i * 64) in
-    ap (λ (n : ℕ). length (select (has ws) 0 n)) e ∙ count-split (has ws) 0 (i * 64) 64
-    ∙ ap (λ (n : ℕ). length (select (has ws) 0 (i * 64)) + n) (ap (λ (b : ℕ). length (select (has ws) b 64)) z ∙ ones-are (has ws) (i * 64) 64 (getD ws i 0) h word)
-  where
-    word : (j : ℕ) → j < 64 → has ws (i * 64 + j) ≡ bit (getD ws i 0) j
-    word j l =
-        let a : (i * 64 + j) / 64 ≡ i = omega arith in
-        let b : (i * 64 + j) % 64 ≡ j = omega arith in
-        rw (a, b)
+    ap length (select-word (has ws) i) ∙ length-append (select (has ws) 0 (i * 64)) (select (has ws) (i * 64) 64)
+    ∙ ap (λ (n : ℕ). length (select (has ws) 0 (i * 64)) + n) (ones-are (has ws) (i * 64) 64 (getD ws i 0) h (in-word ws i))

@@ -5,3 +5,4 @@ pub mod Next
 pub mod Counting
 pub mod Gathering
 pub mod Each
+pub mod Steps

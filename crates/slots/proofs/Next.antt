@@ -53,10 +53,19 @@ trailing-lt (suc k) n p h = go (n % 2) refl (trailing-lt k (n / 2))
 bit-shr : (w k d : ℕ) → bit w (k + d) ≡ bit (w / 2 ^ k) d
 bit-shr w k d = ap (λ (n : ℕ). eqb (n % 2) 1) (sym (shr-shr w k d))
 
-bit-high : (n w i : ℕ) → w < 2 ^ n → n ≤ i → bit w i ≡ false
+-- a word has no bit beyond its length
+pub bit-high : (n w i : ℕ) → w < 2 ^ n → n ≤ i → bit w i ≡ false
 bit-high zero w i h l = let e : w ≡ 0 = omega arith in rw e (bit-zero i)
 bit-high (suc n) w zero h l = absurd (omega arith)
 bit-high (suc n) w (suc i) h l = let k : w < 2 ^ n * 2 = rw pow-suc at h in bit-suc w i ∙ bit-high n (w / 2) i (omega arith) (omega arith)
+
+-- the highest bit of a word of j + 1 bits
+pub bit-top : (j w : ℕ) → 2 ^ j ≤ w → w < 2 ^ suc j → bit w j ≡ true
+bit-top zero w l h = let e : w ≡ 1 = omega arith in rw e
+bit-top (suc j) w l h =
+    let l2 : 2 ^ j * 2 ≤ w = rw pow-suc at l in
+    let h2 : w < 2 ^ suc j * 2 = rw (pow-suc 2 (suc j)) at h in
+    bit-suc w j ∙ bit-top j (w / 2) (omega arith) (omega arith)
 
 not-zero : (n : ℕ) → (n ≡ 0 → ⊥) → 0 < n
 not-zero zero h = absurd (h refl)

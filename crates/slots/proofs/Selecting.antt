@@ -2,9 +2,9 @@
 -- are stepped over.
 use mathlib.Core.Path.{_≡_, refl, sym, ap, _∙_}
 use mathlib.Core.Bool.{Bool, true, false}
-use mathlib.Core.List.{List, _∷_}
+use mathlib.Core.List.{List, [], _∷_, _++_}
 use Prim.Native.Nat.{ℕ, zero, suc, _+_, _-_, _≤_, _<_}
-use native.Mathlib.Nat.{add-zero}
+use native.Mathlib.Nat.{add-suc, add-zero, suc-add, zero-add}
 use native.Mathlib.Decide.{decLt}
 use native.Mathlib.Numerals.{add-one}
 use native.Mathlib.Omega.{arith}
@@ -41,6 +41,17 @@ pub slots-le : (ws : List ℕ) → length (slotsOf ws) ≤ slotCount
 unfolding slotsOf
 slots-le ws = select-le (has ws) 0 slotCount
 
+-- the numbers that are picked, in two parts
+if-append : (b : Bool) (x : ℕ) (l r : List ℕ) → (if b then x ∷ (l ++ r) else (l ++ r)) ≡ (if b then x ∷ l else l) ++ r
+if-append true x l r = refl
+if-append false x l r = refl
+
+pub select-split : (f : ℕ → Bool) (b m n : ℕ) → select f b (m + n) ≡ select f b m ++ select f (b + m) n
+unfolding keep upTo
+select-split f b zero n = rw (add-zero b, zero-add n)
+select-split f b (suc m) n =
+    rw (suc-add m n, add-suc b m, select-split f (suc b) m n, suc-add b m) (if-append (f b) b (select f (suc b) m) (select f (suc (b + m)) n))
+
 -- slots that are not picked are stepped over
 skip-some : (f : ℕ → Bool) (n k i : ℕ) → i + k ≤ n → ((s : ℕ) → i ≤ s → s < i + k → f s ≡ false) → select f i (n - i) ≡ select f (i + k) (n - (i + k))
 skip-some f n zero i h z = ap (λ (j : ℕ). select f j (n - j)) (sym (add-zero i))
@@ -53,6 +64,10 @@ pub select-skip : (f : ℕ → Bool) (n i j : ℕ) → i ≤ j → j ≤ n → (
 select-skip f n i j h l z =
     let e : i + (j - i) ≡ j = omega arith in
     skip-some f n (j - i) i (omega arith) (λ s p q. z s p (omega arith)) ∙ ap (λ (k : ℕ). select f k (n - k)) e
+
+pub select-none : (f : ℕ → Bool) (i n : ℕ) → i ≤ n → ((s : ℕ) → i ≤ s → s < n → f s ≡ false) → select f i (n - i) ≡ []
+unfolding keep upTo
+select-none f i n h z = let e : n - n ≡ 0 = omega arith in select-skip f n i n h (omega arith) z ∙ ap (select f n) e
 
 -- what `next` passes over, from a number that is not past the end
 module _ (ws : List ℕ) (from r : ℕ) (h : from ≤ slotCount) (n : NextFrom ws from r) where

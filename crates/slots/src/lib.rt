@@ -7,10 +7,14 @@ ghost use lib.Dec.{eqb};
 ghost use lib.ListN.{length, getD};
 ghost use Rattle.rules.specs.Constants.{noPlace};
 ghost use Rattle.numbers.specs.Buffer.{Wrote};
-ghost use Rattle.slots.specs.Set.{bit, has, slotsOf, TellsEmpty, TellsSubset, NextFrom};
+ghost use Rattle.slots.specs.Set.{bit, has, slotsOf, TellsEmpty, TellsSubset};
 use rules::NO_PLACE;
 use rules::SLOT_END;
 use rules::Slot;
+
+mod walking; // walking.rt: from one slot of a set to the next
+
+pub use walking::Step;
 
 // A set takes so many words of 64 slots.
 pub const WORDS: usize = 16;
@@ -63,34 +67,11 @@ impl SlotSet {
         r
     }
 
-    // The lowest slot of the set that is not below `from`, or 1024 where there is none. Both are numbers and no `Slot`, since 1024 is no slot.
-    pub fn next(self, from: u16) -> u16
-        ensures { λ r. ⌜ NextFrom (self .words) from r ⌝ }
-    {
-        let mut s = from;
-        while s < SLOT_END {
-            let i = (s / 64) as usize;
-            let b = s % 64;
-            let w = self.words[i] >> b;
-            if w != 0 {
-                return s + u64::trailing_zeros(w) as u16;
-            }
-            s = (s / 64 + 1) * 64;
-        }
-        SLOT_END
-    }
-
-    // The lowest slot, or 1024 where there is none.
-    pub fn lowest(self) -> u16
-        ensures { λ r. ⌜ NextFrom (self .words) 0 r ⌝ }
-    {
-        self.next(0)
-    }
-
     pub fn is_empty(self) -> bool
         ensures { λ r. ⌜ TellsEmpty (self .words) r ⌝ }
     {
-        self.lowest() == SLOT_END
+        let s = self.first();
+        s.slot == SLOT_END
     }
 
     // Whether each slot of the set is in `other`.
@@ -128,11 +109,11 @@ pub fn list_slots(out: &mut [u16], a: SlotSet) -> usize
     ensures { λ r. ⌜ Wrote (slotsOf (a .words)) (now (out .entry)) (now (out .exit)) r ⌝ }
 {
     let mut at: usize = 0;
-    let mut s = a.next(0);
-    while s < SLOT_END {
-        out[at] = s;
+    let mut s = a.first();
+    while s.slot < SLOT_END {
+        out[at] = s.slot;
         at += 1;
-        s = a.next(s + 1);
+        s = a.after(s);
     }
     at
 }
