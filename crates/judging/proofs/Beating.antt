@@ -2,9 +2,9 @@
 use Prim.Native.Nat.{ℕ, _%_, _≤_, _<_}
 use native.Mathlib.Omega.{arith}
 use mathlib.Core.Path.{_≡_, refl, sym, ap, _∙_, subst}
-use mathlib.Core.Bool.{Bool, true, false, not, _&&_, _||_, and-false, false≢true}
+use mathlib.Core.Bool.{Bool, true, false, not, _&&_, _||_, and-false, false≢true, true≢false}
 use mathlib.Core.List.{List, []}
-use mathlib.Core.Option.{none, some}
+use mathlib.Core.Option.{Option, none, some}
 use lib.Dec.{eqb, leb, ltb}
 use lib.IntN.{ℤ, pos, negsuc}
 use lib.ListN.{length, getD}
@@ -16,17 +16,16 @@ use Rattle.rules.specs.Group.{Member, memberAt, nobody}
 use Rattle.rules.specs.Records.{MemberMetadata}
 use Rattle.rules.specs.Event as E
 use Rattle.rules.specs.Event.{heartbeat}
-use Rattle.rules.specs.Batches.{Witness, beating, isSigned, isTyped, joining, judged, tried}
+use Rattle.rules.specs.Batches.{beating, isSigned, isTyped, joining}
 use Rattle.rules.proofs.Lists.{and-true}
 use Rattle.theorems.proofs.Cases.{by-cases}
 use Rattle.tables.specs.Advances.{ownedOf}
 use Rattle.group.specs.declared.Seat.{Seat}
-use Rattle.group.specs.declared.Group.{Group}
 use Rattle.group.specs.Columns.{viewMembers}
-use Rattle.group.specs.View.{seated, view, viewSeat, viewWith}
+use Rattle.group.specs.View.{seated, viewSeat}
 use Rattle.events.specs.Outcomes.{givenSubscription, requestOf}
-use Rattle.judging.specs.Reads.{Tries, beatingAs, timeoutGiven}
-use Rattle.judging.proofs.Stepping.{untyped}
+use Rattle.judging.specs.declared.asking.Asked.{Asked}
+use Rattle.judging.specs.Asks.{Asks, beatingAs, timeoutGiven}
 
 -- ---- the member at a seat
 
@@ -138,44 +137,42 @@ module _ (t : ℕ) (timeout subscription : ℕ) (moves : Bool) where
 
 -- ---- the member at a place
 
-pub seat-member : (before : Group) (s : Seat) (p : ℕ) → viewSeat s ≡ getD (viewMembers (before .members)) p none → memberOf s ≡ memberAt (view before) p
-unfolding memberAt view viewWith
-seat-member before s p e = ap (default nobody) e
-
 beating-is : (t : ℕ) (g : G.Group) (p timeout subscription : ℕ) (moves : Bool)
     → beatingAs t (memberAt g p) timeout subscription moves ≡ beating t g p timeout subscription moves
 unfolding beating beatingAs timeoutGiven
 beating-is t g p timeout subscription moves = refl
 
--- the heartbeat of the seat at a place is that of the place
-pub beats-at : (t : ℕ) (before : Group) (s : Seat) (p timeout subscription : ℕ) (moves : Bool) → viewSeat s ≡ getD (viewMembers (before .members)) p none
-    → tried (view before) (heartbeat (beatingAs t (memberOf s) timeout subscription moves)) ≡ tried (view before)
-    (heartbeat (beating t (view before) p timeout subscription moves))
-beats-at t before s p timeout subscription moves e =
-    ap (λ (m : Member). tried (view before) (heartbeat (beatingAs t m timeout subscription moves))) (seat-member before s p e)
-    ∙ ap (λ (b : E.Request). tried (view before) (heartbeat b)) (beating-is t (view before) p timeout subscription moves)
+-- a heartbeat whose numbers do not fit is not good
+pub not-good : (a : Asked) (b : E.Request) → isTyped (heartbeat b) ≡ false → a .good ≡ false → Asks a (some b)
+not-good a b e bad = (bad ∙ sym e, λ good. absurd (true≢false (sym good ∙ bad)))
 
--- and if it gives what the member has, nothing counts of a seat where nobody is
-module _ (r : Bool) (before after : Group) (t : ℕ) (batch : List ℕ) (s : Seat) (p : ℕ) (is : viewSeat s ≡ getD (viewMembers (before .members)) p none) where
-  abbrev Own : ℕ → ℕ → Type 0
-  Own timeout subscription = Tries r before after t batch (λ g. tried g (heartbeat (beatingAs t (memberOf s) timeout subscription true)))
+module _ (a : Asked) (t : ℕ) (g : G.Group) (members : List ℕ) (is : g .members ≡ viewMembers members) (s : Seat) (p : ℕ)
+    (at : viewSeat s ≡ getD (viewMembers members) p none) where
+  seat-member : memberOf s ≡ memberAt g p
+  unfolding memberAt
+  seat-member = ap (default nobody) (at ∙ ap (λ (l : List (Option Member)). getD l p none) (sym is))
 
-  own : Own (s .timeout) (s .subscription) → Own (memberOf s .timeout) (memberOf s .subscription)
-  unfolding tried
-  own h =
-      by-cases (s .used)
-      (λ u. subst (λ (m : Member). Own (m .timeout) (m .subscription)) (sym (its-member s u)) h)
-      (λ u still fair. h still fair
-      ∙ sym (untyped t (view before) _ batch (sym (unused t (s .timeout) (s .subscription) true s u)))
-      ∙ untyped t (view before) _ batch (sym (unused t (memberOf s .timeout) (memberOf s .subscription) true s u)))
+  -- the heartbeat of the seat at a place is that of the place
+  pub beats-at : (timeout subscription : ℕ) (moves : Bool) → Asks a (some (beatingAs t (memberOf s) timeout subscription moves))
+      → Asks a (some (beating t g p timeout subscription moves))
+  beats-at timeout subscription moves h =
+      subst (λ (b : E.Request). Asks a (some b))
+      (ap (λ (m : Member). beatingAs t m timeout subscription moves) seat-member ∙ beating-is t g p timeout subscription moves) h
 
-  pub moves-at : Own (s .timeout) (s .subscription)
-      → Tries r before after t batch (λ g. tried g (heartbeat (beating t g p (memberAt g p .timeout) (memberAt g p .subscription) true)))
-  moves-at h still fair =
-      own h still fair
-      ∙ ap (λ (x : Witness). judged t batch (some x)) (beats-at t before s p (memberOf s .timeout) (memberOf s .subscription) true is)
-      ∙ ap (λ (m : Member). judged t batch (some (tried (view before) (heartbeat (beating t (view before) p (m .timeout) (m .subscription) true)))))
-      (seat-member before s p is)
+  -- and if it gives what the member has, nothing counts of a seat where nobody is
+  pub moves-at : Asks a (some (beatingAs t (memberOf s) (s .timeout) (s .subscription) true))
+      → Asks a (some (beating t g p (memberAt g p .timeout) (memberAt g p .subscription) true))
+  moves-at h =
+      subst (λ (m : Member). Asks a (some (beating t g p (m .timeout) (m .subscription) true))) seat-member
+      (beats-at (memberOf s .timeout) (memberOf s .subscription) true (own h))
+    where
+      own : Asks a (some (beatingAs t (memberOf s) (s .timeout) (s .subscription) true))
+          → Asks a (some (beatingAs t (memberOf s) (memberOf s .timeout) (memberOf s .subscription) true))
+      own h =
+          by-cases (s .used)
+          (λ u. subst (λ (m : Member). Asks a (some (beatingAs t (memberOf s) (m .timeout) (m .subscription) true))) (sym (its-member s u)) h)
+          (λ u. not-good a _ (sym (unused t (memberOf s .timeout) (memberOf s .subscription) true s u))
+          (h .0 ∙ sym (unused t (s .timeout) (s .subscription) true s u)))
 
 -- ---- a join
 

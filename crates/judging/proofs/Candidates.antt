@@ -1,6 +1,6 @@
 -- Which candidate the records of a batch make, by what was gathered of them.
 use Prim.Native.Nat.{ℕ}
-use mathlib.Core.Path.{_≡_, refl, sym, ap, ap₂, _∙_}
+use mathlib.Core.Path.{_≡_, refl, sym, ap, _∙_}
 use mathlib.Core.Bool.{Bool, true, false, false≢true, true≢false}
 use mathlib.Core.List.{List, [], _∷_, foldl, map}
 use mathlib.Core.Option.{Option, none, some}
@@ -9,14 +9,14 @@ use lib.IntN.{pos}
 use lib.ListN.{length}
 use native.Mathlib.Omega.{arith}
 use borrow.Author.Tests.{not-true, not-false}
-use Rattle.rules.specs.Basics.{if_then_else_, empty, given}
+use Rattle.rules.specs.Basics.{if_then_else_, caseOf, empty, given}
 use Rattle.rules.specs.Group as G
 use Rattle.rules.specs.Group.{memberAt}
 use Rattle.rules.specs.Records.{CurrentAssignment, MemberMetadata, Record, TopicMetadata}
-use Rattle.rules.specs.Event.{heartbeat, install, topic}
+use Rattle.rules.specs.Event.{Request, heartbeat, install, topic}
 use Rattle.rules.specs.Ledger.{gone}
-use Rattle.rules.specs.Batches.{Witness, beating, candidate, currentIn, entering, entriesOf, epochIn, installing, isJoin, joining, judged, laidOver, making, memberIn, moving, removing, retimed, targetEpochIn, targetsIn, topicIn, tried}
-use Rattle.theorems.proofs.Cases.{no-some, some-inj}
+use Rattle.rules.specs.Batches.{beating, candidate, currentIn, entering, entriesOf, epochIn, installing, isJoin, joining, judged, laidOver, making, memberIn, moving, removing, retimed, targetEpochIn, targetsIn, topicIn, tried}
+use Rattle.theorems.proofs.Cases.{by-cases, no-some, some-inj}
 use Rattle.recovery.proofs.Ticks.{retimed-twice}
 use Rattle.tables.specs.View.{viewLists}
 use Rattle.group.specs.declared.Group.{Group}
@@ -24,7 +24,9 @@ use Rattle.group.specs.Parts.{Parts, Whole}
 use Rattle.group.specs.View.{view, viewTopics, viewWith}
 use Rattle.batches.specs.declared.Gathered.{Gathered}
 use Rattle.batches.specs.Gathered.{Says, currentAs, epochAs, memberAs, standing, targetEpochAs, topicAs}
-use Rattle.judging.specs.Reads.{Fair, Tries, goodAs}
+use Rattle.judging.specs.Asks.{beatIn}
+use Rattle.judging.specs.Choices.{ifAsked}
+use Rattle.judging.specs.Reads.{goodAs}
 use Rattle.judging.proofs.Resting.{withTopics}
 
 -- ---- the order of the rules
@@ -45,18 +47,31 @@ module _ (t : ℕ) (g : G.Group) (rs : List Record) where
       a-topic k e = rw (noTarget, noneGone, e)
 
       module _ (noTopic : topicIn rs ≡ none) where
-        pub a-member : (m : MemberMetadata) → memberIn rs ≡ some m → candidate t g rs ≡ some (tried g (heartbeat (entering t g rs m)))
-        unfolding candidate
-        a-member m e = rw (noTarget, noneGone, noTopic, e)
+        pub a-beat : candidate t g rs ≡ ifAsked g (beatIn t g rs)
+        unfolding candidate ifAsked beatIn
+        a-beat = rw (noTarget, noneGone, noTopic) (pick (memberIn rs) (currentIn rs))
+          where
+            pick : (m : Option MemberMetadata) (c : Option CurrentAssignment)
+                → caseOf m (caseOf c none (λ x. some (tried g (heartbeat (moving t g x))))) (λ x. some (tried g (heartbeat (entering t g rs x))))
+                ≡ caseOf (caseOf m (caseOf c none (λ x. some (moving t g x))) (λ x. some (entering t g rs x))) none (λ b. some (tried g (heartbeat b)))
+            pick none none = refl
+            pick none (some c) = refl
+            pick (some m) c = refl
 
-        module _ (noMember : memberIn rs ≡ none) where
-          pub a-current : (c : CurrentAssignment) → currentIn rs ≡ some c → candidate t g rs ≡ some (tried g (heartbeat (moving t g c)))
-          unfolding candidate
-          a-current c e = rw (noTarget, noneGone, noTopic, noMember, e)
+  -- a heartbeat of records is at the tick of reading
+  entering-tick : (m : MemberMetadata) → entering t g rs m .tick ≡ t
+  unfolding entering joining beating
+  entering-tick m = by-cases (isJoin (epochIn rs) (currentIn rs)) (λ e. rw e) (λ e. rw e)
 
-          pub no-event : currentIn rs ≡ none → candidate t g rs ≡ none
-          unfolding candidate
-          no-event e = rw (noTarget, noneGone, noTopic, noMember, e)
+  pub beat-tick : (b : Request) → beatIn t g rs ≡ some b → b .tick ≡ t
+  unfolding beatIn moving beating
+  beat-tick b = pick (memberIn rs) (currentIn rs)
+    where
+      pick : (m : Option MemberMetadata) (c : Option CurrentAssignment)
+          → caseOf m (caseOf c none (λ x. some (moving t g x))) (λ x. some (entering t g rs x)) ≡ some b → b .tick ≡ t
+      pick none none e = absurd (no-some b e)
+      pick none (some c) e = ap (λ (x : Request). x .tick) (sym (some-inj e))
+      pick (some m) c e = ap (λ (x : Request). x .tick) (sym (some-inj e)) ∙ entering-tick m
 
 -- ---- what was gathered
 
@@ -113,14 +128,6 @@ module _ {bytes : List ℕ} {said : Gathered} {table : List Bool} {entries entri
   unfolding memberAs
   no-member e = sym (s .member) ∙ absent memberSaid (said .«has_member») e
 
-  pub the-member : (m : MemberMetadata) → memberIn (s .records) ≡ some m → memberSaid ≡ m
-  unfolding memberAs
-  the-member m e = pick (said .«has_member») (s .member ∙ e)
-    where
-      pick : (b : Bool) → (if b then some memberSaid else none) ≡ some m → memberSaid ≡ m
-      pick true q = some-inj q
-      pick false q = absurd (no-some m q)
-
   pub has-current : said .«has_current» ≡ true
       → (a : CurrentAssignment) × (currentIn (s .records) ≡ some a) × (a .place ≡ said .current) × (a .epoch ≡ said .«current_epoch»)
   unfolding currentAs
@@ -170,42 +177,33 @@ module _ {bytes : List ℕ} {said : Gathered} {table : List Bool} {entries entri
       unfolding making
       makes h = sym (a-topic t g (s .records) (no-target s a) (none-gone s b) _ (has-topic s h))
 
-      module _ (c : said .«has_topic» ≡ false) where
-        pub enters : (m : MemberMetadata) → memberIn (s .records) ≡ some m
-            → some (tried g (heartbeat (entering t g (s .records) m))) ≡ candidate t g (s .records)
-        enters m h = sym (a-member t g (s .records) (no-target s a) (none-gone s b) (no-topic s c) m h)
+      pub beats : said .«has_topic» ≡ false → ifAsked g (beatIn t g (s .records)) ≡ candidate t g (s .records)
+      beats c = sym (a-beat t g (s .records) (no-target s a) (none-gone s b) (no-topic s c))
 
-        module _ (d : said .«has_member» ≡ false) where
-          pub moves : said .«has_current» ≡ true
-              → some (tried g (heartbeat (beating t g (said .current) (memberAt g (said .current) .timeout) (memberAt g (said .current) .subscription) true)))
-              ≡ candidate t g (s .records)
-          unfolding moving
-          moves h =
-              let k = has-current s h in
-              ap (λ (p : ℕ). some (tried g (heartbeat (beating t g p (memberAt g p .timeout) (memberAt g p .subscription) true)))) (sym (k .2))
-              ∙ sym (a-current t g (s .records) (no-target s a) (none-gone s b) (no-topic s c) (no-member s d) (k .0) (k .1))
+  -- ---- the heartbeat
 
-          pub is-none : said .«has_current» ≡ false → none ≡ candidate t g (s .records)
-          is-none h = sym (no-event t g (s .records) (no-target s a) (none-gone s b) (no-topic s c) (no-member s d) (no-current s h))
+  joins-in : (b : Bool) → isJoin (epochAs said) (currentIn (s .records)) ≡ b → isJoin (epochIn (s .records)) (currentIn (s .records)) ≡ b
+  joins-in b e = ap (λ (x : Option ℕ). isJoin x (currentIn (s .records))) (sym (s .epoch)) ∙ e
 
-  -- of a record 5 a join or an ordinary heartbeat
-  module _ (m : MemberMetadata) (is : memberIn (s .records) ≡ some m) where
-    joins-in : (b : Bool) → isJoin (epochAs said) (currentIn (s .records)) ≡ b → isJoin (epochIn (s .records)) (currentIn (s .records)) ≡ b
-    joins-in b e = ap (λ (x : Option ℕ). isJoin x (currentIn (s .records))) (sym (s .epoch)) ∙ e
+  module _ (d : said .«has_member» ≡ true) where
+    pub beat-joining : isJoin (epochAs said) (currentIn (s .records)) ≡ true → some (joining t (memberSaid s)) ≡ beatIn t g (s .records)
+    unfolding beatIn entering
+    beat-joining e = rw (has-member s d, joins-in true e)
 
-    pub enters-joining : isJoin (epochAs said) (currentIn (s .records)) ≡ true
-        → tried g (heartbeat (joining t (memberSaid s))) ≡ tried g (heartbeat (entering t g (s .records) m))
-    unfolding entering
-    enters-joining e = rw (joins-in true e) (ap (λ (x : MemberMetadata). tried g (heartbeat (joining t x))) (the-member s m is))
+    pub beat-beating : isJoin (epochAs said) (currentIn (s .records)) ≡ false
+        → some (beating t g (said .member) (said .timeout) (said .subscription) (said .«has_current»)) ≡ beatIn t g (s .records)
+    unfolding beatIn entering
+    beat-beating e = rw (has-member s d, joins-in false e, current-given s)
 
-    pub enters-beating : isJoin (epochAs said) (currentIn (s .records)) ≡ false
-        → tried g (heartbeat (beating t g (said .member) (said .timeout) (said .subscription) (said .«has_current»))) ≡ tried g
-        (heartbeat (entering t g (s .records) m))
-    unfolding entering
-    enters-beating e =
-        rw (joins-in false e)
-        (ap₂ (λ (x : MemberMetadata) (b : Bool). tried g (heartbeat (beating t g (x .place) (x .timeout) (x .subscription) b)))
-        (the-member s m is) (sym (current-given s)))
+  module _ (d : said .«has_member» ≡ false) where
+    pub beat-moving : said .«has_current» ≡ true
+        → some (beating t g (said .current) (memberAt g (said .current) .timeout) (memberAt g (said .current) .subscription) true) ≡ beatIn t g (s .records)
+    unfolding beatIn moving
+    beat-moving h = let k = has-current s h in rw (no-member s d, k .1, k .2)
+
+    pub beat-none : said .«has_current» ≡ false → none ≡ beatIn t g (s .records)
+    unfolding beatIn
+    beat-none h = rw (no-member s d, no-current s h)
 
 -- ---- whether a record 8 has the epoch of a record 3
 
@@ -232,18 +230,7 @@ module _ (said : Gathered) (c : Option CurrentAssignment) where
         let k = stands c (said .current) (said .«current_epoch») (sym is ∙ there (said .current, said .«current_epoch») (said .«has_current») b) in
         sym ((λ i. isJoin (there (said .epoch) (said .«has_epoch») a i) (k .1 i)) ∙ ap (eqb (said .epoch)) (k .3))
 
--- ---- tried, and the group put back
-
-pub chosen : (r : Bool) (before after : Group) (t : ℕ) (batch : List ℕ) (rs : List Record) (w : G.Group → Witness)
-    → some (w (view before)) ≡ candidate t (view before) rs
-    → Tries r before after t batch w → retimed t (view before) ≡ view before → Fair batch → goodAs r (view after) ≡ judged t batch
-    (candidate t (view before) rs)
-chosen r before after t batch rs w e h still fair = h still fair ∙ ap (judged t batch) e
-
-pub none-chosen : (before after : Group) (t : ℕ) (batch : List ℕ) (rs : List Record) → none ≡ candidate t (view before) rs
-    → goodAs false (view after) ≡ judged t batch (candidate t (view before) rs)
-unfolding goodAs judged
-none-chosen before after t batch rs e = ap (judged t batch) e
+-- ---- run, and the group put back
 
 -- the group with another head and other members
 abbrev pub withTicks : Group → List ℕ → List ℕ → Group
@@ -257,7 +244,7 @@ withTicks g head members = record {
   waiting = g .waiting;
 }
 
--- with the tick of reading the candidate was tried
+-- with the tick of reading the candidate was run
 module _ (r : Bool) (before after : Group) (head members : List ℕ) (t : ℕ) (batch : List ℕ) (rs : List Record)
     (is : (topics : List (Option G.Topic)) (target holder : List ℕ) (waiting : List Bool)
     → viewWith topics head members target holder waiting ≡ retimed t (viewWith topics (before .head) (before .members) target holder waiting))

@@ -3,6 +3,6 @@ pub mod Bytes
 pub mod Candidates
 pub mod Reading
 pub mod Resting
+pub mod Runs
 pub mod Stepping
 pub mod Ticks
-pub mod Tries

@@ -47,7 +47,7 @@ first-passes ((y when false) ∷ rows) x b e = first-passes rows x b e
 abbrev readOf : Stepped → List ℕ → Option Group
 readOf s batch = goodAs (isBatch (s .buffer) (s .written) batch) (s .group)
 
-nothing-written : (g : Group) (buf batch : List ℕ) → empty batch ≡ false → goodAs (isBatch buf 0 batch) g ≡ none
+pub nothing-written : (g : Group) (buf batch : List ℕ) → empty batch ≡ false → goodAs (isBatch buf 0 batch) g ≡ none
 unfolding goodAs isBatch
 nothing-written g buf [] z = absurd (true≢false z)
 nothing-written g buf (b ∷ batch) z = rw (le-leb 0 (length buf) (omega arith))

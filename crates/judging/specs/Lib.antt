@@ -1,3 +1,4 @@
 pub mod Lent
 pub mod Reads
+pub mod Asks
 pub mod Choices

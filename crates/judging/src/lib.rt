@@ -1,15 +1,19 @@
 // A batch judged for the group so far: the one event that it can be of is made from its records and run by the coordinator's own function, on the group in
 // place, and what that wrote is compared with the batch. A batch that is refused leaves the group as it was.
+ghost use mathlib.Core.Path.{_≡_};
+ghost use lib.ListN.{length};
+ghost use Rattle.rules.specs.Constants.{batchLimit, slotCount};
 ghost use Rattle.judging.specs.Choices.{Attempts};
 ghost use Rattle.judging.specs.Lent.{groupBefore, groupAfter};
 ghost use Rattle.judging.specs.Reads.{Reads};
 
-mod choosing; // choosing.rt: the event that a batch can only be of
+mod asking; // asking.rt: the heartbeat that a batch can only be of
+mod choosing; // choosing.rt: the event that a batch can only be of, run
 mod comparing; // comparing.rt: what an event wrote, compared with the batch
 mod retiming; // retiming.rt: the ticks that an event is tried with, and the tick of reading
-mod trying; // trying.rt: one event, tried
 
 use batches::Gathered;
+use comparing::is_batch;
 use group::CELLS;
 use group::TOPIC_BYTES;
 use rules::BATCH_LIMIT;
@@ -17,7 +21,15 @@ use rules::MEMBERS;
 use rules::SLOTS;
 use rules::TOPICS;
 
-// The event that the records of a batch say is tried on the group with the tick of reading; if it is not good, every part of the group is put back.
+// How much the scratch buffer and the list hold: behind a slice the prover knows it. No code.
+fn room<'a>(scratch: &'a [u8; BATCH_LIMIT], list: &'a [u16; SLOTS])
+    ensures { λ r. ⌜ (length (now (scratch .entry)) ≡ batchLimit) × (length (now (list .entry)) ≡ slotCount) ⌝ }
+{
+    let s: &[u8] = scratch;
+    let l: &[u16] = list;
+}
+
+// The event that the records of a batch say is run on the group with the tick of reading; if it did not write the batch, every part of the group is put back.
 fn attempt<'a>(
     head: &'a mut [u32; 3],
     members: &'a mut [u32; CELLS],
@@ -44,7 +56,9 @@ fn attempt<'a>(
     let old_holder = *holder;
     let old_waiting = *waiting;
     retiming::retime(head, members, tick);
-    let good = choosing::try_candidate(
+    group::whole(head, members, target, holder, waiting);
+    room(scratch, list);
+    let written = choosing::run_candidate(
         head,
         members,
         topic_ids,
@@ -56,11 +70,10 @@ fn attempt<'a>(
         gone,
         entries,
         tick,
-        batch,
         scratch,
         list,
     );
-    if good {
+    if is_batch(scratch, written, batch) {
         return true;
     }
     *head = old_head;

@@ -1,5 +1,5 @@
--- What was copied first is put back last, if the candidate was not good.
-use mathlib.Core.Path.{refl}
+-- What was copied first is put back last, if the candidate did not write the batch.
+use mathlib.Core.Path.{refl, sym, _∙_}
 use mathlib.Core.Bool.{true≢false}
 use borrow.Author.Needs.{needs}
 use Rattle.group.specs.declared.Group.{Group}
@@ -22,30 +22,58 @@ lent c = let a = c .args in record {
 retime-requires : tie.Need-retime-requires
 retime-requires c κs = search needs
 
-try-candidate-requires : tie.Need-try-candidate-requires
-try-candidate-requires c κs = search needs
+whole-requires : tie.Need-whole-requires
+whole-requires c κs = search needs
+
+room-requires : tie.Need-room-requires
+room-requires c κs = search needs
+
+run-candidate-requires : tie.Need-run-candidate-requires
+run-candidate-requires c κs = search needs
+
+is-batch-requires : tie.Need-is-batch-requires
+is-batch-requires c κs = search needs
 
 returns : tie.Need-returns
 returns c =
-    let c11 = c .before .before .before .before .before .before .before .before .before .before .before in
-    let c22 = c11 .before .before .before .before .before .before .before .before .before .before .before in
+    let c4 = c .before .before .before .before in
+    let c14 = c4 .before .before .before .before .before .before .before .before .before .before in
+    let c17 = c14 .before .before .before in
+    let c23 = c17 .before .before .before .before .before .before in
+    let c34 = c23 .before .before .before .before .before .before .before .before .before .before .before in
+    let n = c14 .room .ensures in
     record {
       judges =
-          λ bytes s fair. was-good _ (lent c22) _ _ _ (c22 .args .tick) _ (s .records) (c11 .retime .ensures)
-          (λ still. c .before .try-candidate .ensures bytes s still fair) (c .if1 .taken);
+          λ bytes s fair. was-good _ (lent c34) _ _ _ (c34 .args .tick) _ (s .records) (c23 .retime .ensures)
+          (λ still. c4 .run-candidate .ensures bytes s (record { whole = c17 .whole .ensures; size = n .0; wide = n .1; still = still }) _ fair)
+          (sym (c .before .is-batch .ensures) ∙ c .if1 .taken);
       keeps = λ e. absurd (true≢false e);
     }
 
 returns-2 : tie.Need-returns-2
 returns-2 c =
-    let c11 = c .before .before .before .before .before .before .before .before .before .before .before in
-    let c22 = c11 .before .before .before .before .before .before .before .before .before .before .before in
+    let c4 = c .before .before .before .before in
+    let c14 = c4 .before .before .before .before .before .before .before .before .before .before in
+    let c17 = c14 .before .before .before in
+    let c23 = c17 .before .before .before .before .before .before in
+    let c34 = c23 .before .before .before .before .before .before .before .before .before .before .before in
+    let n = c14 .room .ensures in
     record {
       judges =
-          λ bytes s fair. was-bad _ (lent c22) _ _ _ (c22 .args .tick) _ (s .records) (c11 .retime .ensures)
-          (λ still. c .before .try-candidate .ensures bytes s still fair) _ (c .if1 .left);
+          λ bytes s fair. was-bad _ (lent c34) _ _ _ (c34 .args .tick) _ (s .records) (c23 .retime .ensures)
+          (λ still. c4 .run-candidate .ensures bytes s (record { whole = c17 .whole .ensures; size = n .0; wide = n .1; still = still }) _ fair) _
+          (sym (c .before .is-batch .ensures) ∙ c .if1 .left);
       keeps = λ e. refl;
     }
 
 pub attempt-spec : {M : Type 1} → statement M
-attempt-spec = tie.close (tie.spec retime-requires try-candidate-requires returns returns-2)
+attempt-spec =
+    tie.close
+    (tie.spec
+    retime-requires
+    whole-requires
+    room-requires
+    run-candidate-requires
+    is-batch-requires
+    returns
+    returns-2)

@@ -4,8 +4,8 @@ use mathlib.Core.Path.{sym, ap, _∙_}
 use borrow.Author.Needs.{needs}
 use Rattle.group.specs.View.{viewSeat}
 use Rattle.group.proofs.Columns.{seat-is, past-members}
-use Rattle.judging.proofs.trying.seat_of.Statement.{statement}
-use Rattle.judging.proofs.trying.seat_of.Tie as tie
+use Rattle.judging.proofs.asking.seat_of.Statement.{statement}
+use Rattle.judging.proofs.asking.seat_of.Tie as tie
 
 cast-t5 : tie.Need-cast-t5
 cast-t5 c = search needs

@@ -1,8 +1,8 @@
 -- At each `return` a test of the rules is decided.
 use borrow.Author.Tests.{not-true, not-false}
 use Rattle.judging.proofs.Candidates.{no-epoch, not-current, same-epoch}
-use Rattle.judging.proofs.choosing.is_join.Statement.{statement}
-use Rattle.judging.proofs.choosing.is_join.Tie as tie
+use Rattle.judging.proofs.asking.is_join.Statement.{statement}
+use Rattle.judging.proofs.asking.is_join.Tie as tie
 
 returns : tie.Need-returns
 returns c = λ o is. no-epoch _ o (not-true _ (c .if1 .taken))

@@ -7,8 +7,8 @@ use mir.Facts.{toZ-ofZ}
 use mir.Val.{SFits}
 use borrow.Author.Needs.{needs}
 use Rattle.judging.proofs.Beating.{beats}
-use Rattle.judging.proofs.trying.beat.Statement.{statement}
-use Rattle.judging.proofs.trying.beat.Tie as tie
+use Rattle.judging.proofs.asking.beat.Statement.{statement}
+use Rattle.judging.proofs.asking.beat.Tie as tie
 
 signed-requires : tie.Need-signed-requires
 signed-requires c κs = search needs

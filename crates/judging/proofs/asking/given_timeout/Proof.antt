@@ -6,8 +6,8 @@ use mir.Val.{SFits}
 use borrow.Author.Needs.{needs}
 use Rattle.rules.specs.Batches.{isSigned}
 use Rattle.judging.proofs.Beating.{own-timeout, other-timeout}
-use Rattle.judging.proofs.trying.given_timeout.Statement.{statement}
-use Rattle.judging.proofs.trying.given_timeout.Tie as tie
+use Rattle.judging.proofs.asking.given_timeout.Statement.{statement}
+use Rattle.judging.proofs.asking.given_timeout.Tie as tie
 
 returns : tie.Need-returns
 returns c = λ h. own-timeout _ _ (c .if1 .taken)

@@ -7,8 +7,8 @@ use mir.Facts.{toZ-pos}
 use mir.Val.{toZ}
 use borrow.Author.Needs.{needs}
 use Rattle.judging.proofs.Beating.{is-signed}
-use Rattle.judging.proofs.trying.signed.Statement.{statement}
-use Rattle.judging.proofs.trying.signed.Tie as tie
+use Rattle.judging.proofs.asking.signed.Statement.{statement}
+use Rattle.judging.proofs.asking.signed.Tie as tie
 
 cast-result : tie.Need-cast-result
 cast-result c = search needs

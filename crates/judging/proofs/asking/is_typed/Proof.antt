@@ -7,8 +7,8 @@ use borrow.Author.Tests.{not-true, not-false}
 use borrow.Author.Needs.{needs}
 use Rattle.group.specs.View.{seated}
 use Rattle.judging.proofs.Beating.{no-subscription, no-epoch, its-timeout, a-timeout, unused, used}
-use Rattle.judging.proofs.trying.is_typed.Statement.{statement}
-use Rattle.judging.proofs.trying.is_typed.Tie as tie
+use Rattle.judging.proofs.asking.is_typed.Statement.{statement}
+use Rattle.judging.proofs.asking.is_typed.Tie as tie
 
 returns : tie.Need-returns
 returns c t m =
