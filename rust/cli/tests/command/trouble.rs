@@ -61,9 +61,12 @@ const NOBODY: u32 = 65_534;
 
 /// Root may read and write any file, so somebody else tries it.
 fn run_as_nobody(folder: &Folder, arguments: &[&str], forbidden: &str) -> Output {
-    // Where the command lies, nobody else may be let in.
+    // Where the command lies, nobody else may be let in. Another process makes the copy: a child that
+    // another test starts meanwhile would inherit this one's file, and what is open for writing cannot
+    // be run.
     let copy = folder.file("pankvisolo");
-    fs::copy(COMMAND, &copy).unwrap();
+    let made = Command::new("cp").args([COMMAND, &copy]).status().unwrap();
+    assert!(made.success());
     let mut command = Command::new(&copy);
     command.args(arguments).stdin(Stdio::null());
     if OpenOptions::new().append(true).open(forbidden).is_ok() {

@@ -26,9 +26,13 @@ pub fn path() -> Option<PathBuf> {
 
 /// Runs the test, by its whole name, in a process of its own in the folder; it must pass.
 pub fn run(test: &str, folder: &Folder, journal: &Path, limit: Limit) {
-    // Where this program lies, nobody else may be let in.
+    // Where this program lies, nobody else may be let in. Another process makes the copy: a child that
+    // another test starts meanwhile would inherit this one's file, and what is open for writing cannot
+    // be run.
     let program = folder.file("test");
-    fs::copy(env::current_exe().unwrap(), &program).unwrap();
+    let mut copy = Command::new("cp");
+    copy.arg(env::current_exe().unwrap()).arg(&program);
+    assert!(copy.status().unwrap().success());
     let before = match limit {
         // A block of the shell's is 512 bytes. Without the trap the process would be stopped.
         Limit::FileBlocks(blocks) => format!("trap '' XFSZ; ulimit -f {blocks};"),
