@@ -4,13 +4,17 @@ use std::env;
 use std::fs::{self, File};
 use std::io::ErrorKind;
 use std::process;
+use std::sync::atomic::{AtomicUsize, Ordering};
 
 use super::*;
 
 /// A store with a topic whose file is now this device, and what its journal had.
 fn over(device: &str, run: impl FnOnce(Store, Vec<u8>)) {
+    // Each call has a journal of its own: tests run side by side.
+    static CALLS: AtomicUsize = AtomicUsize::new(0);
+    let call = CALLS.fetch_add(1, Ordering::Relaxed);
     let name = device.replace('/', "-");
-    let path = env::temp_dir().join(format!("pankvisolo-{}{name}", process::id()));
+    let path = env::temp_dir().join(format!("pankvisolo-{}{name}-{call}", process::id()));
     let mut store = Store::open(&path, 1_000).unwrap();
     store.topic(0, [0x11; 16], 3).unwrap();
     let stored = fs::read(&path).unwrap();
