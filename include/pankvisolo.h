@@ -74,7 +74,8 @@ enum {
     PANKVISOLO_FENCED_MEMBER_EPOCH = 110,
     /* An install: there are not 1,024 entries, and PANKVISOLO_NO_SLOT is reported. Also, after
        PANKVISOLO_ALREADY: an entry's place is free or there is none such, its slot doesn't exist, or its member
-       doesn't subscribe to the topic; the first such slot is reported. */
+       doesn't subscribe to the topic; or a slot is left over: its entry is PANKVISOLO_NO_PLACE, it exists, and
+       some member subscribes to the topic. The first bad slot of either sort is reported. */
     PANKVISOLO_BAD_TARGET = 1006,
     /* An install: its epoch is not the group's. */
     PANKVISOLO_STALE = 1004,
@@ -194,14 +195,17 @@ struct pankvisolo_reply pankvisolo_set_topic(
     struct pankvisolo_group *group, uint32_t number, struct pankvisolo_id id, uint32_t count,
     uint8_t *records, size_t records_length);
 
-/* Sets who is to have each slot: 1,024 entries, each a place or PANKVISOLO_NO_PLACE. */
+/* Sets who is to have each slot: 1,024 entries, each a place or PANKVISOLO_NO_PLACE. A slot that exists and to whose
+   topic some member subscribes goes to such a member, and every other slot to nobody; otherwise it is
+   PANKVISOLO_BAD_TARGET. */
 struct pankvisolo_reply pankvisolo_install(
     struct pankvisolo_group *group, int32_t epoch,
     const uint8_t *entries, size_t entries_length,
     uint8_t *records, size_t records_length);
 
 /* Reads a journal. The group, which is written over whatever it was, is the one after the last good batch, and
-   every tick in it is the tick of reading. */
+   every tick in it is the tick of reading. A target in it may leave slots over: a journal is read without that rule
+   of an install, so that one which a broker from before the rule wrote is read and gone on with. */
 struct pankvisolo_reading pankvisolo_read_journal(
     struct pankvisolo_group *group, uint32_t tick,
     const uint8_t *bytes, size_t bytes_length);
@@ -210,8 +214,8 @@ struct pankvisolo_reading pankvisolo_read_journal(
    would. The first stands behind the heading. Beyond the end of the bytes it is PANKVISOLO_WHOLE too. */
 struct pankvisolo_extent pankvisolo_next_batch(const uint8_t *bytes, size_t bytes_length, size_t at);
 
-/* Takes the records of one batch on, and every tick becomes the tick of reading. False: no event would write
-   them for this group, and every byte of it is as it was. */
+/* Takes the records of one batch on, and every tick becomes the tick of reading; here too an install may leave slots
+   over. False: no event would write them for this group, and every byte of it is as it was. */
 bool pankvisolo_read_batch(
     struct pankvisolo_group *group, uint32_t tick,
     const uint8_t *batch, size_t batch_length);

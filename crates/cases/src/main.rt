@@ -3,8 +3,8 @@
 // do not reach; the lines expected, in the file `stdout`, are 01's.
 //
 // A row: EVENT|ID|EPOCH|TICK|TIMEOUT|N|ROOM|NAME. Of the event the first letter counts, and a number stands right before the next bar. The ID is sixteen times
-// the byte. N is a topic's count, how many slots are listed (from 0 up), or the places for slots 0, 1 and 2 of an install, a digit each. ROOM is the length of
-// the buffer lent, 64 at most. The topic is topic 0, and a joiner subscribes to it.
+// the byte. N is a topic's count, how many slots are listed (from 0 up), or the places for slots 0, 1 and 2 of an install, a digit each, 9 for nobody. ROOM is
+// the length of the buffer lent, 64 at most. The topic is topic 0, and a joiner subscribes to it.
 use events::Outcome;
 use events::Request;
 use group::CELLS;
@@ -166,12 +166,20 @@ fn request(row: Row) -> Request {
     }
 }
 
+// The place that the last digit says.
+fn place(n: u32) -> u8 {
+    if n % 10 == 9 {
+        return NO_PLACE;
+    }
+    (n % 10) as u8
+}
+
 // For slots 0, 1 and 2 the places that the three digits say.
 fn entries(n: u32) -> [u8; SLOTS] {
     let mut entries = [NO_PLACE; SLOTS];
-    entries[0] = (n / 100 % 10) as u8;
-    entries[1] = (n / 10 % 10) as u8;
-    entries[2] = (n % 10) as u8;
+    entries[0] = place(n / 100);
+    entries[1] = place(n / 10);
+    entries[2] = place(n);
     entries
 }
 

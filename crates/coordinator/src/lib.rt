@@ -75,7 +75,7 @@ pub fn topic<'a>(
     )
 }
 
-// Installs a target: for each slot a place, or 255 for none.
+// Installs a target: for each slot a place, or 255 for none, which is refused at an existing slot whose topic some member subscribes to.
 pub fn install<'a>(
     head: &'a mut [u32; 3],
     members: &'a [u32; CELLS],
@@ -85,7 +85,16 @@ pub fn install<'a>(
     entries: &[u8],
     records: &mut [u8],
 ) -> Outcome
-    ensures { λ r. ⌜ ((l : List ℕ) → Becomes viewTargetParts r (targetBefore head members «topic_counts» target) (targetAfter head members «topic_counts» target) (now (records .exit)) l (λ g. step g (E.install epoch (now (entries .entry))) (now (records .entry)) l)) ⌝ }
+    ensures { λ r. ⌜ ((l : List ℕ) → Becomes viewTargetParts r (targetBefore head members «topic_counts» target) (targetAfter head members «topic_counts» target) (now (records .exit)) l (λ g. step g (E.install E.withRule epoch (now (entries .entry))) (now (records .entry)) l)) ⌝ }
 {
-    installing::install(head, members, topic_counts, target, epoch, entries, records)
+    installing::install(
+        head,
+        members,
+        topic_counts,
+        target,
+        true,
+        epoch,
+        entries,
+        records,
+    )
 }

@@ -72,7 +72,7 @@ pub batches-of-removals : Judges (group 2 0 tick (worker aa 1 tick tick ∷ work
 unfolding good
 batches-of-removals = refl
 
--- an install that leaves a target as it was: refused if its member no longer subscribes
+-- an install that leaves a target as it was: slots 1 and 2 are left over, and 'Journals are read without this rule'; refused if its member no longer subscribes
 pub batches-of-installs : Judges (group 1 0 tick (worker aa 1 tick tick ∷ []) (inA 0 0 ∷ [])) ((0x06 ∷ 0x01 ∷ [], true) ∷ (0x06 ∷ 0x02 ∷ [], false) ∷ [])
 unfolding good
 batches-of-installs = refl
@@ -81,7 +81,7 @@ pub batches-of-unsubscribed : Judges (group 1 0 tick (member aa 1 2 300 tick tic
 unfolding good
 batches-of-unsubscribed = refl
 
--- an install that gives slot 2 to nobody
+-- an install that gives slot 2 to nobody, as brokers did before request 3
 pub batches-that-take-away : Judges (group 2 1 tick (worker aa 1 tick tick ∷ []) (inA 0 0 ∷ inA 0 0 ∷ inA 0 0 ∷ []))
     ((0x07 ∷ 0x00 ∷ 0x02 ∷ 0x00 ∷ 0x01 ∷ 0x06 ∷ 0x02 ∷ [], true) ∷ (0x06 ∷ 0x02 ∷ [], true) ∷ (0x07 ∷ 0x00 ∷ 0x03 ∷ 0x00 ∷ 0x01 ∷ 0x01 ∷ 0x06 ∷ 0x02 ∷ [], false) ∷ [])
 unfolding good

@@ -7,6 +7,7 @@ pub mod Heartbeats
 pub mod Sweeps
 pub mod Topics
 pub mod Installs
+pub mod LeftOver
 pub mod Limits
 pub mod Recovering
 pub mod Journals

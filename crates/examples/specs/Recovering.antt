@@ -7,7 +7,7 @@ use mathlib.Core.Option.{Option}
 use Rattle.rules.specs.Basics.{firstWith, given, keep, upTo}
 use Rattle.rules.specs.Group.{Group, assigned, belowCount, elapsed, exists, freeSlot, fresh, includesTopic, isMember, known, lowestFree, memberAt, memberCount, nobody, placeOf, raised, revoking, setA, setM, setP, subscribes, targeted, vacant}
 use Rattle.rules.specs.Records.{allBytes, bytesOf, differences, fits, groups, number, numbersOf, partsOf, placed, placesOf, setBytes}
-use Rattle.rules.specs.Refusals.{allows, atEnd, badEntry, badList, badTimeout, countChanges, firstBad, firstOf, goesBack, hasId, heartbeatTable, isEpoch, isSlotSet, kindOf, lacking, malformed, newSubscription, newTimeout, noTimeout, notHeldBy, resubscribes, table, topicBad, topicChanges, topicRaises, zeroId}
+use Rattle.rules.specs.Refusals.{allows, atEnd, badEntry, badList, badTimeout, countChanges, firstBad, firstOf, goesBack, hasId, heartbeatTable, isEpoch, isSlotSet, kindOf, lacking, leftOver, malformed, misplaced, newSubscription, newTimeout, noTimeout, notHeldBy, resubscribes, table, topicBad, topicChanges, topicRaises, zeroId}
 use Rattle.rules.specs.Effects.{advanced, afterFree, changed, claimed, due, effect, epochAfter, freed, frees, goneRecords, groupEpochAfter, heartbeatEffect, installEffect, installRecords, joinAt, joinEffect, joinPlace, joinRecords, joiner, leaveAt, leaveEffect, leaveRecords, memberAfter, onlyIf, ordinaryRecords, overdue, overduePlaces, removalRecords, remove, retargeted, revoked, revokes, slotsAfter, stray, strays, sweepEffect, sweepEpoch, sweepOf, sweepRecords, targetRecord, topicEffect, topicEpoch, topicRecords, vacated, waits, withTarget, withTopic, ordinaryAt, updates, moves, currentBefore, currentAfter, metadataOf, currentOf, joinedAt}
 use Rattle.rules.specs.Reader.{_>>=_, andMore, andThen, byte, joined, moreGroups, pure, readAll, readBytes, readCurrent, readDifferences, readKind, readMember, readNumber, readPresent, readRecord, readRecords, readSet, readTarget, readTopic, refuse}
 use Rattle.rules.specs.Ledger.{gone}
@@ -22,7 +22,7 @@ abbrev pub tick : ℕ
 tick = 7000
 
 unfoldable pub reads : List ℕ → Reading
-unfolding _>>=_ advanced afterBatch afterFree afterLength allBytes allows andMore andThen assigned atEnd badEntry badList badTimeout beating belowCount byte bytesOf candidate changed claimed countChanges currentAfter currentBefore currentOf differences due effect elapsed entering entriesOf epochAfter exists firstBad firstOf firstWith fits freeSlot freed frees fresh goesBack gone goneRecords groupEpochAfter groups hasId heading heardAt heartbeatEffect heartbeatTable includesTopic installEffect installRecords installing isEpoch isJoin isMember isSigned isSlotSet isTyped joinAt joinEffect joinPlace joinRecords joined joinedAt joiner joining judged judgedBy keep kindOf known lacking laid laidOver leaveAt leaveEffect leaveRecords lowestFree making malformed memberAfter memberAt memberCount metadataOf moreGroups moves moving newSubscription newTimeout noTimeout nobody notHeldBy number numbersOf onlyIf ordinaryAt ordinaryRecords overdue overduePlaces partsOf placeOf placed placesOf pure raised readAll readBatch readBatches readBytes readCurrent readDifferences readHeading readJournal readKind readLength readMember readNumber readPresent readRecord readRecords readSet readTarget readTopic refuse removalRecords remove removing resubscribes retargeted retimed retimedMember revoked revokes revoking secondGroup sessionBefore setA setBytes setM setP silent slotsAfter stray strays subscribes sweepEffect sweepEpoch sweepOf sweepRecords table targetRecord targeted targetsIn topicBad topicChanges topicEffect topicEpoch topicRaises topicRecords tried updates upTo vacant vacated waits withTarget withTopic zeroId
+unfolding _>>=_ advanced afterBatch afterFree afterLength allBytes allows andMore andThen assigned atEnd badEntry badList badTimeout beating belowCount byte bytesOf candidate changed claimed countChanges currentAfter currentBefore currentOf differences due effect elapsed entering entriesOf epochAfter exists firstBad firstOf firstWith fits freeSlot freed frees fresh goesBack gone goneRecords groupEpochAfter groups hasId heading heardAt heartbeatEffect heartbeatTable includesTopic installEffect installRecords installing isEpoch isJoin isMember isSigned isSlotSet isTyped joinAt joinEffect joinPlace joinRecords joined joinedAt joiner joining judged judgedBy keep kindOf known lacking laid laidOver leaveAt leaveEffect leaveRecords leftOver lowestFree making malformed memberAfter memberAt memberCount metadataOf misplaced moreGroups moves moving newSubscription newTimeout noTimeout nobody notHeldBy number numbersOf onlyIf ordinaryAt ordinaryRecords overdue overduePlaces partsOf placeOf placed placesOf pure raised readAll readBatch readBatches readBytes readCurrent readDifferences readHeading readJournal readKind readLength readMember readNumber readPresent readRecord readRecords readSet readTarget readTopic refuse removalRecords remove removing resubscribes retargeted retimed retimedMember revoked revokes revoking secondGroup sessionBefore setA setBytes setM setP silent slotsAfter stray strays subscribes sweepEffect sweepEpoch sweepOf sweepRecords table targetRecord targeted targetsIn topicBad topicChanges topicEffect topicEpoch topicRaises topicRecords tried updates upTo vacant vacated waits withTarget withTopic zeroId
 reads bytes = readJournal tick bytes
 
 -- a batch read for a group

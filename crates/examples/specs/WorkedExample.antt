@@ -5,7 +5,7 @@ use mathlib.Core.List.{List, [], _∷_, _++_}
 use mathlib.Core.Option.{none, some}
 use lib.IntN.{pos}
 use Rattle.rules.specs.Group.{fresh}
-use Rattle.rules.specs.Event.{Event, install, topic}
+use Rattle.rules.specs.Event.{Event, install, topic, withRule}
 use Rattle.rules.specs.declared.Refusal.the-variants.{Already}
 use Rattle.rules.specs.declared.Answer.the-variants.{Done, Refused}
 use Rattle.examples.specs.Running.{run}
@@ -13,7 +13,7 @@ use Rattle.examples.specs.Rows.{Row, Runs, aa, answers, assigns, bb, ent
 
 -- slots 0, 1 and 2 to these places, all others to none
 abbrev installing : ℕ → ℕ → ℕ → ℕ → Event
-installing epoch a b c = install (pos epoch) (entries (a ∷ b ∷ c ∷ []))
+installing epoch a b c = install withRule (pos epoch) (entries (a ∷ b ∷ c ∷ []))
 
 -- The event; the answer (of a heartbeat E and the slots); the bytes; G, T and the last tick, the members by place (E, last heard, P last set), slots 0, 1
 -- and 2, after it.

@@ -1,5 +1,6 @@
 // The entries of an install: the first slot whose entry row 1006 refuses.
-// The entries are tried against the topics' counts and the subscription at each place, which is gathered once, so that the loop over 1,024 slots copies nothing.
+// The entries are tried against the topics' counts, the subscription at each place and the union of these, gathered once, so that the loop over 1,024 slots
+// copies nothing.
 // An array taken as a slice has no code: it tells the prover the array's length.
 ghost use mathlib.Core.Path.{_≡_};
 ghost use mathlib.Core.List.{List, map};
@@ -11,7 +12,7 @@ ghost use Rattle.rules.specs.Group.{Group};
 ghost use Rattle.rules.specs.Refusals.{firstBad};
 ghost use Rattle.group.specs.Columns.{viewMembers};
 ghost use Rattle.group.specs.View.{viewTopics};
-ghost use Rattle.group.specs.Entries.{subscriptionOf, entryBad};
+ghost use Rattle.group.specs.Entries.{Wanted, entryBad, subscriptionOf};
 use crate::CELLS;
 use crate::subscribers;
 use rules::MEMBERS;
@@ -40,29 +41,48 @@ fn whole<'a>(counts: &'a [u8; TOPICS], subscriptions: &'a [u16; MEMBERS])
     let s: &[u16] = subscriptions;
 }
 
-// Whether an entry may not stand at a slot: it is a place, and the slot does not exist or no member there subscribes to its topic.
+// The topics whose slots may not be left with none: those that some member subscribes to, and none without the rule.
+fn wanted_topics(rule: bool, subscriptions: &[u16; MEMBERS]) -> u16
+    ensures { λ r. ⌜ Wanted rule (now (subscriptions .entry)) r ⌝ }
+{
+    let each: &[u16] = subscriptions;
+    if !rule {
+        return 0;
+    }
+    let mut all: u16 = 0;
+    let mut k: usize = 0;
+    while k < MEMBERS {
+        all = all | subscriptions[k];
+        k += 1;
+    }
+    all
+}
+
+// Whether an entry may not stand at a slot: it is a place, and the slot does not exist or no member there subscribes to its topic; or it is none, and the slot
+// exists and its topic is wanted.
 fn is_bad_entry<'a>(
     counts: &'a [u8; TOPICS],
     subscriptions: &'a [u16; MEMBERS],
+    wanted: u16,
     slot: usize,
     entry: u8,
 ) -> bool
-    ensures { λ r. ⌜ r ≡ entryBad (now (counts .entry)) (now (subscriptions .entry)) slot entry ⌝ }
+    ensures { λ r. ⌜ r ≡ entryBad (now (counts .entry)) (now (subscriptions .entry)) wanted slot entry ⌝ }
 {
     whole(counts, subscriptions);
-    if entry == NO_PLACE {
-        return false;
-    }
     let topic = slot / PARTITIONS;
     if TOPICS <= topic {
-        return true;
-    }
-    let place = entry as usize;
-    if MEMBERS <= place {
-        return true;
+        return entry != NO_PLACE;
     }
     let partition = (slot % PARTITIONS) as u8;
     if counts[topic] <= partition {
+        return entry != NO_PLACE;
+    }
+    if entry == NO_PLACE {
+        return (wanted >> topic) % 2 == 1;
+    }
+    let place = entry as usize;
+    if MEMBERS <= place {
         return true;
     }
     let subscription = subscriptions[place];
@@ -73,14 +93,15 @@ fn is_bad_entry<'a>(
 fn first_bad_of<'a>(
     counts: &'a [u8; TOPICS],
     subscriptions: &'a [u16; MEMBERS],
+    wanted: u16,
     entries: &[u8],
 ) -> usize
-    ensures { λ r. ⌜ r ≡ firstWith (entryBad (now (counts .entry)) (now (subscriptions .entry))) 0 (now (entries .entry)) ⌝ }
+    ensures { λ r. ⌜ r ≡ firstWith (entryBad (now (counts .entry)) (now (subscriptions .entry)) wanted) 0 (now (entries .entry)) ⌝ }
 {
     let mut slot: usize = 0;
     while slot < entries.len() {
         let entry = entries[slot];
-        if is_bad_entry(counts, subscriptions, slot, entry) {
+        if is_bad_entry(counts, subscriptions, wanted, slot, entry) {
             return slot;
         }
         slot += 1;
@@ -88,11 +109,17 @@ fn first_bad_of<'a>(
     slot
 }
 
-// Row 1006: the first slot whose entry may not stand, or the number of entries where all may.
-pub fn first_bad<'a>(members: &'a [u32; CELLS], counts: &'a [u8; TOPICS], entries: &[u8]) -> usize
-    ensures { λ r. ⌜ ((g : Group) (ids : List ℕ) → g .topics ≡ viewTopics ids (now (counts .entry)) → g .members ≡ viewMembers (now (members .entry)) → r ≡ firstBad g (now (entries .entry))) ⌝ }
+// Row 1006: the first slot whose entry may not stand, or the number of entries where all may; with the rule 'No slot left over' or without.
+pub fn first_bad<'a>(
+    members: &'a [u32; CELLS],
+    counts: &'a [u8; TOPICS],
+    rule: bool,
+    entries: &[u8],
+) -> usize
+    ensures { λ r. ⌜ ((g : Group) (ids : List ℕ) → g .topics ≡ viewTopics ids (now (counts .entry)) → g .members ≡ viewMembers (now (members .entry)) → r ≡ firstBad rule g (now (entries .entry))) ⌝ }
 {
     let all: &[u8] = counts;
     let subscriptions = subscriptions_of(members);
-    first_bad_of(counts, &subscriptions, entries)
+    let wanted = wanted_topics(rule, &subscriptions);
+    first_bad_of(counts, &subscriptions, wanted, entries)
 }

@@ -75,27 +75,27 @@ wrote-part {w} {b} {b′} {n} p =
 
 -- ---- the rows
 
-module _ (g : Group) (z : ℤ) (entries b l : List ℕ) where
-  pub install-short : eqb (length entries) slotCount ≡ false → step g (install z entries) b l ≡ denied (BadTarget (slotNumber noSlot)) g b l
+module _ (g : Group) (rule : Bool) (z : ℤ) (entries b l : List ℕ) where
+  pub install-short : eqb (length entries) slotCount ≡ false → step g (install rule z entries) b l ≡ denied (BadTarget (slotNumber noSlot)) g b l
   unfolding step verdict table firstOf carryOut
   install-short h = rw h
 
   module _ (h : eqb (length entries) slotCount ≡ true) where
-    pub install-stale : isEpoch z (g .epoch) ≡ false → step g (install z entries) b l ≡ denied Stale g b l
+    pub install-stale : isEpoch z (g .epoch) ≡ false → step g (install rule z entries) b l ≡ denied Stale g b l
     unfolding step verdict table firstOf carryOut
     install-stale q = rw (h, q)
 
     module _ (q : isEpoch z (g .epoch) ≡ true) where
-      pub install-already : eqb (g .targetEpoch) (g .epoch) ≡ true → step g (install z entries) b l ≡ denied Already g b l
+      pub install-already : eqb (g .targetEpoch) (g .epoch) ≡ true → step g (install rule z entries) b l ≡ denied Already g b l
       unfolding step verdict table firstOf carryOut
       install-already r = rw (h, q, r)
 
       module _ (r : eqb (g .targetEpoch) (g .epoch) ≡ false) where
-        pub install-bad : {s : ℕ} → s ≡ firstBad g entries → s < slotCount → step g (install z entries) b l ≡ denied (BadTarget (slotNumber s)) g b l
+        pub install-bad : {s : ℕ} → s ≡ firstBad rule g entries → s < slotCount → step g (install rule z entries) b l ≡ denied (BadTarget (slotNumber s)) g b l
         unfolding step verdict table firstOf carryOut
         install-bad {s} e k = rw (h, q, r, ← e, lt-ltb s slotCount k)
 
-        pub install-step : {s : ℕ} → s ≡ firstBad g entries → slotCount ≤ s → step g (install z entries) b l ≡ carried g (installEffect g entries) b l
+        pub install-step : {s : ℕ} → s ≡ firstBad rule g entries → slotCount ≤ s → step g (install rule z entries) b l ≡ carried g (installEffect g entries) b l
         unfolding step verdict table firstOf carryOut carried effect
         install-step {s} e k = rw (h, q, r, ← e, le-ltb s slotCount k)
 

@@ -71,17 +71,19 @@ fn install_at<'a>(
     }
 }
 
-// An install: an epoch, and for each slot a place or 255 for none. Writes the records to the start of the buffer and leaves the rest of it alone.
+// An install: an epoch, and for each slot a place or 255 for none; judged with the rule 'No slot left over' or without. Writes the records to the start of the
+// buffer and leaves the rest of it alone.
 pub fn install<'a>(
     head: &'a mut [u32; 3],
     members: &'a [u32; CELLS],
     topic_counts: &'a [u8; TOPICS],
     target: &'a mut [u8; SLOTS],
+    rule: bool,
     epoch: i32,
     entries: &[u8],
     records: &mut [u8],
 ) -> Outcome
-    ensures { λ r. ⌜ ((l : List ℕ) → Becomes viewTargetParts r (targetBefore head members «topic_counts» target) (targetAfter head members «topic_counts» target) (now (records .exit)) l (λ g. step g (E.install epoch (now (entries .entry))) (now (records .entry)) l)) ⌝ }
+    ensures { λ r. ⌜ ((l : List ℕ) → Becomes viewTargetParts r (targetBefore head members «topic_counts» target) (targetAfter head members «topic_counts» target) (now (records .exit)) l (λ g. step g (E.install rule epoch (now (entries .entry))) (now (records .entry)) l)) ⌝ }
 {
     sized(head, target);
     if entries.len() != SLOTS {
@@ -94,7 +96,7 @@ pub fn install<'a>(
     if head[TARGET_EPOCH] == current {
         return refused(Refusal::Already);
     }
-    let bad = group::entries::first_bad(members, topic_counts, entries);
+    let bad = group::entries::first_bad(members, topic_counts, rule, entries);
     if bad < SLOTS {
         return refused(Refusal::BadTarget(Slot(bad as u16)));
     }

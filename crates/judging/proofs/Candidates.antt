@@ -13,7 +13,7 @@ use Rattle.rules.specs.Basics.{if_then_else_, caseOf, empty, given}
 use Rattle.rules.specs.Group as G
 use Rattle.rules.specs.Group.{memberAt}
 use Rattle.rules.specs.Records.{CurrentAssignment, MemberMetadata, Record, TopicMetadata}
-use Rattle.rules.specs.Event.{Request, heartbeat, install, topic}
+use Rattle.rules.specs.Event.{Request, heartbeat, install, topic, withoutRule}
 use Rattle.rules.specs.Ledger.{gone}
 use Rattle.rules.specs.Batches.{beating, candidate, currentIn, entering, entriesOf, epochIn, installing, isJoin, joining, judged, laidOver, making, memberIn, moving, removing, retimed, targetEpochIn, targetsIn, topicIn, tried}
 use Rattle.theorems.proofs.Cases.{by-cases, no-some, some-inj}
@@ -161,10 +161,10 @@ its-targets ids counts p w = targets-of (p .target) (p .holder) (p .waiting) (w 
 module _ {bytes : List ℕ} {said : Gathered} {table : List Bool} {entries entries′ : List ℕ} (s : Says bytes said table entries entries′) (t : ℕ)
     (g : G.Group) where
   pub installs : said .«has_target_epoch» ≡ true → map (λ x. x .target) (g .slots) ≡ entries
-      → some (tried g (install (pos (said .«target_epoch»)) entries′)) ≡ candidate t g (s .records)
+      → some (tried g (install withoutRule (pos (said .«target_epoch»)) entries′)) ≡ candidate t g (s .records)
   unfolding installing entriesOf
   installs h e =
-      ap (λ (x : List ℕ). some (tried g (install (pos (said .«target_epoch»)) x)))
+      ap (λ (x : List ℕ). some (tried g (install withoutRule (pos (said .«target_epoch»)) x)))
       (s .targets ∙ ap (λ (x : List ℕ). foldl laidOver x (targetsIn (s .records))) (sym e))
       ∙ sym (an-install t g (s .records) (said .«target_epoch») (has-target s h))
 

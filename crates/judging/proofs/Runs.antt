@@ -12,7 +12,7 @@ use borrow.Author.Tests.{eq-eqb, le-leb, lt-leb}
 use Rattle.rules.specs.Constants.{batchLimit, idLength, lastEpoch, maxMembers, slotCount}
 use Rattle.rules.specs.Group as G
 use Rattle.rules.specs.Group.{assigned, setA}
-use Rattle.rules.specs.Event.{Event, Request, heartbeat, install, sweep, topic}
+use Rattle.rules.specs.Event.{Event, Request, heartbeat, install, sweep, topic, withoutRule}
 use Rattle.rules.specs.Refusals.{Kind, invalid, joins, kindOf, leaves, ordinary, senderOf}
 use Rattle.rules.specs.Effects.{effect, heartbeatEffect, installEffect, joinAt, joinEffect, leaveAt, leaveEffect, ordinaryAt, slotsAfter, sweepEffect, sweepOf, topicEffect}
 use Rattle.rules.specs.Step.{step}
@@ -65,7 +65,7 @@ topic-tells : (g : G.Group) (t : ℕ) (id : List ℕ) (n : ℕ) → length (effe
 unfolding effect topicEffect
 topic-tells g t id n = omega arith
 
-install-tells : (g : G.Group) (e : ℤ) (entries : List ℕ) → length (effect g (install e entries) .told) ≤ 0
+install-tells : (g : G.Group) (e : ℤ) (entries : List ℕ) → length (effect g (install withoutRule e entries) .told) ≤ 0
 unfolding effect installEffect
 install-tells g e entries = omega arith
 
@@ -100,27 +100,27 @@ topic-ran rest t n id k long p p′ buf buf′ size o b =
     ran viewTopicParts (withTables rest) rest (view-tables rest) t (topic n id k) tt (eq-eqb (length id) idLength long) p p′ buf buf′ [] [] size
     (topic-tells (view (withTables rest p)) n id k) o (b [])
 
-install-typed : (n : ℕ) (entries : List ℕ) → isTyped (install (pos n) entries) ≡ leb n lastEpoch
+install-typed : (n : ℕ) (entries : List ℕ) → isTyped (install withoutRule (pos n) entries) ≡ leb n lastEpoch
 unfolding isTyped isSigned
 install-typed n entries = refl
 
 pub install-ran : (rest : Holding) (t n : ℕ) (z : ℤ) (entries : List ℕ) → n ≤ lastEpoch → z ≡ pos n → (p p′ : TargetParts) (buf buf′ : List ℕ)
-    → length buf ≡ batchLimit → (o : Outcome) → ((l : List ℕ) → Becomes viewTargetParts o p p′ buf′ l (λ g. step g (install z entries) buf l))
+    → length buf ≡ batchLimit → (o : Outcome) → ((l : List ℕ) → Becomes viewTargetParts o p p′ buf′ l (λ g. step g (install withoutRule z entries) buf l))
     → retimed t (view (withHolding rest p)) ≡ view (withHolding rest p)
-    → Ran (o .written) buf′ (view (withHolding rest p′)) t (some (tried (view (withHolding rest p)) (install (pos n) entries)))
+    → Ran (o .written) buf′ (view (withHolding rest p′)) t (some (tried (view (withHolding rest p)) (install withoutRule (pos n) entries)))
 install-ran rest t n z entries low is p p′ buf buf′ size o b =
-    ran viewTargetParts (withHolding rest) rest (view-holding rest) t (install (pos n) entries) tt (install-typed n entries ∙ le-leb n lastEpoch low) p p′
+    ran viewTargetParts (withHolding rest) rest (view-holding rest) t (install withoutRule (pos n) entries) tt (install-typed n entries ∙ le-leb n lastEpoch low) p p′
     buf buf′ [] [] size
     (install-tells (view (withHolding rest p)) (pos n) entries) o
-    (subst (λ (x : ℤ). Becomes viewTargetParts o p p′ buf′ [] (λ g. step g (install x entries) buf [])) is (b []))
+    (subst (λ (x : ℤ). Becomes viewTargetParts o p p′ buf′ [] (λ g. step g (install withoutRule x entries) buf [])) is (b []))
 
 -- an epoch that does not fit was never stored
 pub large-install : (buf : List ℕ) (h : G.Group) (t : ℕ) (g : G.Group) (n : ℕ) (entries : List ℕ) → lastEpoch < n
-    → Ran 0 buf h t (some (tried g (install (pos n) entries)))
+    → Ran 0 buf h t (some (tried g (install withoutRule (pos n) entries)))
 unfolding tried
 large-install buf h t g n entries e =
-    none-ran buf h t (some (tried g (install (pos n) entries)))
-    (λ batch. untyped t g (install (pos n) entries) batch (install-typed n entries ∙ lt-leb n lastEpoch e))
+    none-ran buf h t (some (tried g (install withoutRule (pos n) entries)))
+    (λ batch. untyped t g (install withoutRule (pos n) entries) batch (install-typed n entries ∙ lt-leb n lastEpoch e))
 
 -- ---- heartbeats
 

@@ -1,5 +1,5 @@
 // The event that a batch can only be of, by what its records say, in the order of the rules: an install, a sweep, a topic event or a heartbeat. The
-// coordinator's own function runs it on the group in place.
+// coordinator's own function runs it on the group in place; an install is run without the rule 'No slot left over'.
 ghost use Rattle.judging.specs.Choices.{Runs};
 ghost use Rattle.judging.specs.Lent.{groupBefore, groupAfter};
 use crate::asking::ask;
@@ -37,11 +37,12 @@ pub fn run_candidate<'a>(
         if LAST_EPOCH < epoch {
             return 0;
         }
-        let installed = coordinator::install(
+        let installed = installing::install(
             head,
             members,
             topic_counts,
             target,
+            false,
             epoch as i32,
             entries,
             scratch,

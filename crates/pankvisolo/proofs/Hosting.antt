@@ -51,7 +51,7 @@ unfolding answerTo effect sweepEffect sweepOf topicEffect installEffect
 accepted-told g (heartbeat b) = heartbeat-told g b (kindOf (b .epoch))
 accepted-told g (sweep tick) = refl
 accepted-told g (topic t id n) = refl
-accepted-told g (install e entries) = refl
+accepted-told g (install rule e entries) = refl
 
 pub decodes : Decodes
 unfolding Decodes step carryOut

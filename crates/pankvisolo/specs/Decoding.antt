@@ -33,7 +33,7 @@ abbrev pub acceptedAnswer : Event → Said → Answer
 acceptedAnswer (heartbeat b) s = heartbeatAnswer (s .epoch) (s .interval) (s .count)
 acceptedAnswer (sweep tick) s = Swept (s .count)
 acceptedAnswer (topic t id n) s = Done
-acceptedAnswer (install e entries) s = Done
+acceptedAnswer (install rule e entries) s = Done
 
 -- the answer to an event; the number 0 accepts it
 unfoldable pub answerTo : Event → Said → Answer

@@ -119,7 +119,7 @@ pub fn install<'a>(
     entries: &[u8],
     records: &mut [u8],
 ) -> Reply
-    ensures { λ r. ⌜ ((l : List ℕ) → Serves (E.install epoch (now (entries .entry))) (groupBefore head members «topic_ids» «topic_counts» target holder waiting) (groupAfter head members «topic_ids» «topic_counts» target holder waiting) r (now (records .entry)) (now (records .exit)) l l) ⌝ }
+    ensures { λ r. ⌜ ((l : List ℕ) → Serves (E.install E.withRule epoch (now (entries .entry))) (groupBefore head members «topic_ids» «topic_counts» target holder waiting) (groupAfter head members «topic_ids» «topic_counts» target holder waiting) r (now (records .entry)) (now (records .exit)) l l) ⌝ }
 {
     group::whole(head, members, target, holder, waiting);
     let o = coordinator::install(head, members, topic_counts, target, epoch, entries, records);

@@ -158,7 +158,7 @@ pub extern "C" fn pankvisolo_install(
     entries: &[u8],
     records: &mut [u8],
 ) -> Reply
-    ensures { λ r. ⌜ ((l : List ℕ) → Serves (E.install epoch (now (entries .entry))) (now (group .entry)) (now (group .exit)) r (now (records .entry)) (now (records .exit)) l l) ⌝ }
+    ensures { λ r. ⌜ ((l : List ℕ) → Serves (E.install E.withRule epoch (now (entries .entry))) (now (group .entry)) (now (group .exit)) r (now (records .entry)) (now (records .exit)) l l) ⌝ }
 {
     lent::install(
         &mut group.head,

@@ -59,7 +59,7 @@ module _ (t : ℕ) (g : Group) (v : Legible g) where
   effect-found (heartbeat b) typed rows filled = heartbeat-found b typed (kindOf (b .epoch)) refl (rows .1) filled
   effect-found (sweep tick) typed rows filled = sweep-found t g v tick filled
   effect-found (topic k id n) typed rows filled = topic-found t g k id n typed rows filled
-  effect-found (install e entries) typed rows filled = install-found t g v e entries rows
+  effect-found (install rule e entries) typed rows filled = install-found t g v rule e entries rows
 
   -- ---- both ways
 

@@ -186,7 +186,7 @@ module _ (g : Group) (v : Legible g) where
       let good = good-topic g t n id (rows .0) in
       both (onlyIf _ (topicIs _)) _ (only _ (topicIs _) (topic-sound (record { number = t; id = id; count = n }) (good .number) (good .most)))
       (only _ (groupEpoch _) (epoch-sound _ (accepted-last g (topic t id n) (v .last) rows)))
-  records-sound (install e entries) typed rows =
+  records-sound (install rule e entries) typed rows =
       both (concatMap (targetRecord (g .slots) (retargeted (g .slots) entries)) (upTo 0 maxMembers)) _
       (targets-sound (g .slots) (retargeted (g .slots) entries) 0 maxMembers (omega arith))
       (target-epoch-sound (g .epoch) (v .last), tt)
@@ -215,4 +215,4 @@ module _ (g : Group) (v : Legible g) where
   accepted-typed (heartbeat b) (n, q) typed rows = heartbeat-typed b typed n q (subst (λ (z : ℤ). AllFalse (heartbeatTable g b (kindOf z))) q (rows .1))
   accepted-typed (sweep tick) natural typed rows = refl
   accepted-typed (topic t id n) natural typed rows = eq-eqb (length id) idLength typed
-  accepted-typed (install e entries) natural typed rows = signed-epoch e (g .epoch) (not-is-false (isEpoch e (g .epoch)) (rows .1 .0)) (v .last)
+  accepted-typed (install rule e entries) natural typed rows = signed-epoch e (g .epoch) (not-is-false (isEpoch e (g .epoch)) (rows .1 .0)) (v .last)

@@ -6,7 +6,7 @@ use native.Mathlib.Nat.{add-zero, add-suc, suc-add, zero-add}
 use native.Mathlib.Omega.{arith}
 use mathlib.Core.Path.{_≡_, refl, sym, ap, _∙_}
 use mathlib.Core.Logic.{_≢_}
-use mathlib.Core.Bool.{true, false, not}
+use mathlib.Core.Bool.{Bool, true, false, not}
 use mathlib.Core.List.{List, [], _∷_, _++_, foldl, map}
 use mathlib.Core.Option.{none, some}
 use lib.IntN.{ℤ, pos}
@@ -18,8 +18,8 @@ use Rattle.rules.specs.Basics.{any, concatMap, if_then_else_, firstWith, same, 
 use Rattle.rules.specs.Constants.{maxMembers, maxPartitions, noPlace, slotCount}
 use Rattle.rules.specs.Group.{Group, SlotState, exists, freeSlot, setM, targeted}
 use Rattle.rules.specs.Records.{Record, partsOf, targetEpoch}
-use Rattle.rules.specs.Event.{install}
-use Rattle.rules.specs.Refusals.{badEntry, firstBad, isEpoch, table}
+use Rattle.rules.specs.Event.{install, withoutRule}
+use Rattle.rules.specs.Refusals.{badEntry, firstBad, isEpoch, misplaced, table}
 use Rattle.rules.specs.Effects.{effect, installEffect, installRecords, onlyIf, retargeted, targetRecord, withTarget}
 use Rattle.rules.specs.Batches.{Legible, candidate, entriesOf, installing, laid, laidOver, retimed, targetEpochIn, targetsIn, tried}
 use Rattle.rules.proofs.Lists.{not-is-false, same-eq}
@@ -27,7 +27,8 @@ use Rattle.theorems.proofs.Cases.{eq-cases, if-cases}
 use Rattle.theorems.proofs.Accepting.{AllFalse}
 use Rattle.theorems.proofs.Picks.{listed-picked}
 use Rattle.theorems.proofs.Moves.{length-retargeted, target-retargeted, targetIn}
-use Rattle.theorems.proofs.Untouched.{entry-placed}
+use Rattle.theorems.proofs.Untouched.{GoodTarget, entry-placed, good-target}
+use Rattle.theorems.proofs.LeftOver.{without-rule}
 use Rattle.recovery.proofs.Ticks.{alike-members, at-retimed, members-twice, subscribes-retimed}
 use Rattle.recovery.proofs.Judging.{Found}
 
@@ -126,16 +127,16 @@ topics-same : (t : ℕ) (g : Group) → retimed t g .topics ≡ g .topics
 unfolding retimed
 topics-same t g = refl
 
-one-retimed : (t : ℕ) (g : Group) (s e : ℕ) → badEntry (retimed t g) s e ≡ badEntry g s e
-unfolding badEntry exists
+one-retimed : (t : ℕ) (g : Group) (s e : ℕ) → badEntry withoutRule (retimed t g) s e ≡ badEntry withoutRule g s e
+unfolding badEntry misplaced exists
 one-retimed t g s e = rw (at-retimed t g e, subscribes-retimed t (s / maxPartitions) (getD (g .members) e none), topics-same t g) refl
 
-first-retimed : (t : ℕ) (g : Group) (n : ℕ) (es : List ℕ) → firstWith (badEntry (retimed t g)) n es ≡ firstWith (badEntry g) n es
+first-retimed : (t : ℕ) (g : Group) (n : ℕ) (es : List ℕ) → firstWith (badEntry withoutRule (retimed t g)) n es ≡ firstWith (badEntry withoutRule g) n es
 unfolding firstWith
 first-retimed t g n [] = refl
 first-retimed t g n (e ∷ es) = rw (one-retimed t g n e, first-retimed t g (suc n) es) refl
 
-bad-retimed : (t : ℕ) (g : Group) (es : List ℕ) → firstBad (retimed t g) es ≡ firstBad g es
+bad-retimed : (t : ℕ) (g : Group) (es : List ℕ) → firstBad withoutRule (retimed t g) es ≡ firstBad withoutRule g es
 unfolding firstBad
 bad-retimed t g es = first-retimed t g 0 es
 
@@ -149,26 +150,29 @@ epoch-read before after e (p ∷ ps) =
     if-cases (λ (rs : List Record). targetEpochIn ((rs ++ concatMap (targetRecord before after) ps) ++ (targetEpoch e ∷ [])) ≡ some e)
     (not (same (setM p before) (setM p after))) (λ _. epoch-read before after e ps) (λ _. epoch-read before after e ps)
 
-module _ (t : ℕ) (g : Group) (v : Legible g) (z : ℤ) (es : List ℕ) (rows : AllFalse (table g (install z es))) where
+module _ (t : ℕ) (g : Group) (v : Legible g) (rule : Bool) (z : ℤ) (es : List ℕ) (rows : AllFalse (table g (install rule z es))) where
   abbrev after : List SlotState
   after = retargeted (g .slots) es
 
   abbrev written : List Record
   written = installRecords (g .slots) after (g .epoch)
 
-  long : length es ≡ slotCount
-  unfolding table
-  long = eqb-true (length es) slotCount (not-is-false (eqb (length es) slotCount) (rows .0))
+  -- whatever passes, passes without the rule
+  loose : AllFalse (table g (install withoutRule z es))
+  loose = pick rule rows
+    where
+      pick : (r : Bool) → AllFalse (table g (install r z es)) → AllFalse (table g (install withoutRule z es))
+      pick true h = without-rule g z es h
+      pick false h = h
 
-  all-fine : ltb (firstBad g es) slotCount ≡ false
-  unfolding table
-  all-fine = rows .1 .1 .1 .0
+  good : GoodTarget withoutRule g es
+  good = good-target withoutRule g z es loose
 
   same-long : length after ≡ slotCount
   same-long = length-retargeted (g .slots) es ∙ v .wide
 
   target-is : (s : ℕ) → targetIn after s ≡ getD es s noPlace
-  target-is s = target-retargeted (g .slots) es s (v .wide ∙ sym long)
+  target-is s = target-retargeted (g .slots) es s (v .wide ∙ sym (good .long))
 
   first-laid : Laid (g .slots) after 0 (map (λ s. s .target) (g .slots))
   unfolding targetIn freeSlot
@@ -181,37 +185,38 @@ module _ (t : ℕ) (g : Group) (v : Legible g) (z : ℤ) (es : List ℕ) (rows :
   unfolding entriesOf installRecords retimed targetIn
   entries-are =
       let r = laid-all (g .slots) after (v .wide) same-long (g .epoch) maxMembers 0 (map (λ s. s .target) (g .slots)) refl first-laid in
-      ext-getD noPlace _ es (r .long ∙ sym long)
+      ext-getD noPlace _ es (r .long ∙ sym (good .long))
       (λ s b. entry-last _ _ _ (v .targets s) (placed s) (r .at s (omega (arith, r .long))) ∙ target-is s)
     where
       placed : (s : ℕ) → targetIn after s ≢ noPlace → targetIn after s < maxMembers
-      placed s h = rw (target-is s) (omega (arith, v .places, entry-placed g es long all-fine s (λ e. h (target-is s ∙ e))))
+      placed s h = rw (target-is s) (omega (arith, v .places, entry-placed good s (λ e. h (target-is s ∙ e))))
 
   epoch-is : targetEpochIn written ≡ some (g .epoch)
   unfolding installRecords
   epoch-is = epoch-read (g .slots) after (g .epoch) (upTo 0 maxMembers)
 
-  candidate-is : candidate t (retimed t g) written ≡ some (tried (retimed t g) (install (pos (g .epoch)) es))
+  candidate-is : candidate t (retimed t g) written ≡ some (tried (retimed t g) (install withoutRule (pos (g .epoch)) es))
   unfolding candidate installing
   candidate-is = rw (epoch-is, entries-are) refl
 
-  not-refused : AllFalse (table (retimed t g) (install (pos (g .epoch)) es))
+  not-refused : AllFalse (table (retimed t g) (install withoutRule (pos (g .epoch)) es))
   unfolding table isEpoch retimed
-  not-refused = (rows .0, (ap not (eq-eqb (g .epoch) (g .epoch) refl), (rows .1 .1 .0, (ap (λ (x : ℕ). ltb x slotCount) (bad-retimed t g es) ∙ all-fine, tt))))
+  not-refused =
+      (loose .0, (ap not (eq-eqb (g .epoch) (g .epoch) refl), (loose .1 .1 .0, (ap (λ (x : ℕ). ltb x slotCount) (bad-retimed t g es) ∙ loose .1 .1 .1 .0, tt))))
 
-  same-records : effect (retimed t g) (install (pos (g .epoch)) es) .records ≡ effect g (install z es) .records
+  same-records : effect (retimed t g) (install withoutRule (pos (g .epoch)) es) .records ≡ effect g (install rule z es) .records
   unfolding effect installEffect retimed
   same-records = refl
 
-  same-group : (u : ℕ) → retimed u (effect (retimed t g) (install (pos (g .epoch)) es) .group) ≡ retimed u (effect g (install z es) .group)
+  same-group : (u : ℕ) → retimed u (effect (retimed t g) (install withoutRule (pos (g .epoch)) es) .group) ≡ retimed u (effect g (install rule z es) .group)
   unfolding effect installEffect withTarget retimed
   same-group u =
-      alike-members u (effect (retimed t g) (install (pos (g .epoch)) es) .group) (effect g (install z es) .group) refl refl refl (members-twice t u (g .members)) refl
+      alike-members u (effect (retimed t g) (install withoutRule (pos (g .epoch)) es) .group) (effect g (install rule z es) .group) refl refl refl (members-twice t u (g .members)) refl
 
-  pub install-found : Found t (retimed t g) (effect g (install z es) .records) (effect g (install z es) .group)
+  pub install-found : Found t (retimed t g) (effect g (install rule z es) .records) (effect g (install rule z es) .group)
   unfolding tried effect installEffect
   install-found = record {
-    witness = tried (retimed t g) (install (pos (g .epoch)) es);
+    witness = tried (retimed t g) (install withoutRule (pos (g .epoch)) es);
     found = candidate-is;
     typed = tt;
     rows = not-refused;

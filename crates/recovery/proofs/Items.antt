@@ -20,10 +20,9 @@ use Rattle.rules.specs.Journal.{entry, storedBy}
 use Rattle.rules.specs.Theorems.{Reached}
 use Rattle.theorems.proofs.Cases.{some-inj}
 use Rattle.theorems.proofs.ReadBack.{overlaid}
-use Rattle.theorems.proofs.Accepting.{step-cases}
+use Rattle.theorems.proofs.Accepting.{rows-none, step-cases}
 use Rattle.theorems.proofs.Legible.{legible-reached}
 use Rattle.recovery.proofs.Ticks.{retimed-twice}
-use Rattle.recovery.proofs.Judging.{no-row}
 use Rattle.recovery.proofs.Fits.{accepted-legal}
 use Rattle.recovery.proofs.Quiet.{quiet}
 
@@ -65,7 +64,7 @@ module _ (g : Group) (c : Call) (ok : Typed (c .event)) (t : ℕ) where
       let bytes = allBytes (effect g (c .event) .records) in
       step-cases g (c .event) (c .buffer) (c .list) (λ s. empty (storedIn s) ≡ true → retimed t (s .group) ≡ retimed t g) (λ _ _. refl)
       (λ _ rows z. quiet g v (c .event) rows
-      (no-records _ (accepted-legal g v (c .event) (no-row _ rows) ok .back) (sym (ap empty (overlaid bytes (c .buffer))) ∙ z)) t)
+      (no-records _ (accepted-legal g v (c .event) (rows-none _ rows) ok .back) (sym (ap empty (overlaid bytes (c .buffer))) ∙ z)) t)
 
   call-stored : empty (storedIn (stepped g c)) ≡ false → Stored t g (storedIn (stepped g c)) (stepped g c .group)
   unfolding stepped carryOut
@@ -79,7 +78,7 @@ module _ (g : Group) (c : Call) (ok : Typed (c .event)) (t : ℕ) where
           alike = sym (retimed-twice t 0 g);
           event = c .event;
           typed = ok;
-          accepted = no-row (table g (c .event)) rows;
+          accepted = rows-none (table g (c .event)) rows;
           writes = sym o;
           stored = z;
         };

@@ -10,7 +10,7 @@ use Prim.Native.Nat.{ℕ, zero, suc, _+_, _≤_}
 use native.Mathlib.Nat.{add-zero, add-suc, suc-add}
 use mathlib.Core.Path.{_≡_, refl, sym, ap, _∙_}
 use mathlib.Core.Bool.{Bool, true, false, _&&_, false≢true}
-use mathlib.Core.List.{List, [], _∷_, map, append-nil}
+use mathlib.Core.List.{List, [], _∷_, map}
 use mathlib.Core.Option.{Option, none, some}
 use lib.IntN.{pos}
 use lib.ListN.{length, getD}
@@ -21,7 +21,7 @@ use Rattle.rules.specs.Constants.{batchLimit, idLength, subscriptionCount}
 use Rattle.rules.specs.Group.{Group, Member}
 use Rattle.rules.specs.Records.{CurrentAssignment, MemberMetadata, Record, allBytes, fits, placed}
 use Rattle.rules.specs.Event.{Event, Request, heartbeat, install, sweep, topic}
-use Rattle.rules.specs.Refusals.{Row, firstOf, table}
+use Rattle.rules.specs.Refusals.{firstOf, table}
 use Rattle.rules.specs.Effects.{effect}
 use Rattle.rules.specs.Reader.{readAll, readRecords}
 use Rattle.rules.specs.Ledger.{gone}
@@ -30,7 +30,7 @@ use Rattle.rules.specs.Batches.{Alike, Witness, Writes, beating, candidate, cur
 use Rattle.rules.specs.declared.Refusal.{Refusal}
 use Rattle.rules.proofs.Lists.{and-true, same-eq, same-refl}
 use Rattle.theorems.proofs.Cases.{if-cases, no-some}
-use Rattle.theorems.proofs.Accepting.{AllFalse, none-of}
+use Rattle.theorems.proofs.Accepting.{AllFalse, rows-none}
 use Rattle.recovery.proofs.Ticks.{alike-members, retimed-twice}
 
 -- ---- typed, from its test
@@ -46,7 +46,7 @@ typed-true (heartbeat b) e =
     (eqb-true (length (b .id)) idLength (h .0), subscribing (b .subscription) (h .1))
 typed-true (sweep tick) e = tt
 typed-true (topic t id n) e = eqb-true (length id) idLength e
-typed-true (install x entries) e = tt
+typed-true (install rule x entries) e = tt
 
 -- ---- a candidate is of the group so far, ticks aside, and is no leave
 
@@ -55,7 +55,7 @@ abbrev pub Natural : Event → Type 0
 Natural (heartbeat b) = (n : ℕ) × (b .epoch ≡ pos n)
 Natural (sweep tick) = Unit {0}
 Natural (topic t id n) = Unit {0}
-Natural (install e entries) = Unit {0}
+Natural (install rule e entries) = Unit {0}
 
 abbrev OfGroup : Group → Option Witness → Type 0
 OfGroup g none = Unit {0}
@@ -166,10 +166,6 @@ read-writes t g h bytes e =
 
 -- ---- what was written is read
 
-pub no-row : (rows : List Row) → AllFalse rows → firstOf rows ≡ none
-unfolding firstOf
-no-row rows h = sym (ap firstOf (append-nil rows)) ∙ none-of rows [] h refl
-
 -- a candidate is found for these records; it is accepted, writes them, and leaves the group `after`, ticks aside
 pub record Found (t : ℕ) (g : Group) (rs : List Record) (after : Group) : Type 0 where
   pub witness : Witness
@@ -206,7 +202,7 @@ found-read t g rs after legal f typed =
       legal .fit,
       f .found,
       typed,
-      no-row (table (w .group) (w .event)) (f .rows),
+      rows-none (table (w .group) (w .event)) (f .rows),
       f .records,
       same-refl (allBytes rs),
     )

@@ -33,7 +33,7 @@ abbrev pub AtTick : ℕ → Event → Type 0
 AtTick t (heartbeat b) = b .tick ≡ t
 AtTick t (sweep tick) = tick ≡ t
 AtTick t (topic n id k) = Unit {0}
-AtTick t (install e entries) = Unit {0}
+AtTick t (install rule e entries) = Unit {0}
 
 -- ---- all members of one tick
 
@@ -113,7 +113,7 @@ module _ (t : ℕ) (g : Group) (still : retimed t g ≡ g) where
   keeps-ticks (sweep tick) now rows =
       keeps t _ now (still-all t _ (removed t (overduePlaces g tick) g (λ q _. still-at t (g .members) (its-members t g still) q)))
   keeps-ticks (topic n id k) now rows = keeps t _ (its-tick t g still) (its-members t g still)
-  keeps-ticks (install e entries) now rows = keeps t _ (its-tick t g still) (its-members t g still)
+  keeps-ticks (install rule e entries) now rows = keeps t _ (its-tick t g still) (its-members t g still)
 
   -- ---- the removal that is tried
 

@@ -134,4 +134,4 @@ module _ (g : Group) (v : Legible g) where
   quiet (heartbeat b) rows z t = heartbeat-quiet b (kindOf (b .epoch)) (rows .1) z t
   quiet (sweep tick) rows z t = ap (λ (ps : List ℕ). retimed t (sweepOf g ps tick .group)) (none-went g (overduePlaces g tick) tick z) ∙ no-sweep g tick t
   quiet (topic n id c) rows z t = topic-quiet g n id c rows z t
-  quiet (install e entries) rows z t = absurd (false≢true (sym (installs-write (g .slots) _ (g .epoch)) ∙ z))
+  quiet (install rule e entries) rows z t = absurd (false≢true (sym (installs-write (g .slots) _ (g .epoch)) ∙ z))

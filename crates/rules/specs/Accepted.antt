@@ -1,21 +1,23 @@
 -- What an accepted event of each kind changes, and what it leaves. The proofs are in crates/theorems/proofs.
-use Prim.Native.Nat.{ℕ, suc, max, _<_}
+use Prim.Native.Nat.{ℕ, suc, max, _/_, _<_}
 use mathlib.Core.Path.{_≡_}
 use mathlib.Core.Logic.{_≢_, _⊎_}
-use mathlib.Core.Bool.{true, false}
+use mathlib.Core.Bool.{Bool, true, false}
 use mathlib.Core.List.{List, [], List·Memᴰ}
 use mathlib.Core.Option.{none, some}
 use lib.IntN.{ℤ, pos}
 use lib.ListN.{length, getD}
 use lib.Dec.{eqb}
 use Rattle.rules.specs.Basics.{any, default, indices}
-use Rattle.rules.specs.Constants.{maxMembers, slotCount, topicCount}
-use Rattle.rules.specs.Group.{Group, Member, SlotState, Topic, known, raised, setA, setM, setP, subscribes}
-use Rattle.rules.specs.Event.{Event, Request, heartbeat, install, sweep, topic}
-use Rattle.rules.specs.Refusals.{joins, kindOf, leaves, ordinary, timeoutOr}
+use Rattle.rules.specs.Constants.{maxMembers, maxPartitions, noPlace, slotCount, topicCount}
+use Rattle.rules.specs.Group.{Group, Member, SlotState, Topic, exists, freeSlot, includesTopic, known, raised, setA, setM, setP, subscribes}
+use Rattle.rules.specs.Event.{Event, Request, heartbeat, install, sweep, topic, withRule, withoutRule}
+use Rattle.rules.specs.Answers.{slotNumber}
+use Rattle.rules.specs.Refusals.{badEntry, joins, kindOf, leaves, ordinary, timeoutOr}
 use Rattle.rules.specs.Effects.{overdue}
 use Rattle.rules.specs.Step.{Stepped, step}
 use Rattle.rules.specs.declared.Refusal.{Refusal}
+use Rattle.rules.specs.declared.Refusal.the-variants.{BadTarget}
 use Rattle.rules.specs.declared.Answer.the-variants.{Done, Refused}
 
 -- an event is accepted if its answer is no refusal
@@ -174,4 +176,38 @@ pub record AfterInstall (entries : List ℕ) (before after : Group) : Type 0 whe
   pub targetEpoch : after .targetEpoch ≡ before .epoch
 
 abbrev pub AcceptedInstall : Type 0
-AcceptedInstall = (epoch : ℤ) (entries : List ℕ) → AfterAccepted (install epoch entries) (AfterInstall entries)
+AcceptedInstall = (rule : Bool) (epoch : ℤ) (entries : List ℕ) → AfterAccepted (install rule epoch entries) (AfterInstall entries)
+
+-- ---- request 3, 'No slot left over'
+
+-- the target of the slot is a member that subscribes to its topic
+pub record Owned (g : Group) (s : ℕ) : Type 0 where
+  pub owner : Member
+  pub here : getD (g .members) (getD (g .slots) s freeSlot .target) none ≡ some owner
+  pub subscribed : includesTopic (s / maxPartitions) (owner .subscription) ≡ true
+
+-- each existing slot whose topic some member subscribes to has an owner. It holds of the group that an accepted install leaves, and is not claimed for later:
+-- a topic may grow, a member leave or subscribe to more
+abbrev pub AllOwned : Group → Type 0
+AllOwned g = (s : ℕ) → exists g s ≡ true → any (subscribes (s / maxPartitions)) (g .members) ≡ true → Owned g s
+
+abbrev pub NoneLeftOver : Type 0
+NoneLeftOver = (epoch : ℤ) (entries : List ℕ) → AfterAccepted (install withRule epoch entries) (λ before after. AllOwned after)
+
+-- 'The first bad slot of either sort is reported'
+pub record FirstOfEither (rule : Bool) (g : Group) (entries : List ℕ) (s : ℕ) : Type 0 where
+  pub bad : badEntry rule g s (getD entries s noPlace) ≡ true
+  pub none : (n : ℕ) → n < s → badEntry rule g n (getD entries n noPlace) ≡ false
+
+abbrev pub FirstReported : Type 0
+FirstReported =
+    (g : Group) (rule : Bool) (epoch : ℤ) (entries buffer list : List ℕ) (s : ℕ) → s < slotCount
+    → step g (install rule epoch entries) buffer list .answer ≡ Refused (BadTarget (slotNumber s))
+    → FirstOfEither rule g entries s
+
+-- 'Journals are read without this rule': what is installed with it is accepted without it too, and comes to the same
+abbrev pub ReadWithoutRule : Type 0
+ReadWithoutRule =
+    (g : Group) (epoch : ℤ) (entries buffer list : List ℕ)
+    → Accepted g (install withRule epoch entries) buffer list
+    → step g (install withoutRule epoch entries) buffer list ≡ step g (install withRule epoch entries) buffer list

@@ -13,7 +13,7 @@ use Rattle.rules.specs.Basics.{if_then_else_, all, any, caseOf, concatMa
 use Rattle.rules.specs.Constants.{batchLimit, idLength, lastEpoch, maxMembers, maxTimeout, noPlace, sessionTimeout, slotCount, subscriptionCount, tickRange}
 use Rattle.rules.specs.Group.{Group, Member, freeSlot, fresh, memberAt}
 use Rattle.rules.specs.Records.{CurrentAssignment, MemberMetadata, Record, TargetAssignment, TopicMetadata, allBytes, fits, partsOf, placed}
-use Rattle.rules.specs.Event.{Request, Event, heartbeat, sweep, topic, install}
+use Rattle.rules.specs.Event.{Request, Event, heartbeat, sweep, topic, install, withoutRule}
 use Rattle.rules.specs.Refusals.{firstOf, table}
 use Rattle.rules.specs.Effects.{effect}
 use Rattle.rules.specs.Reader.{readAll}
@@ -47,7 +47,7 @@ Alike g h = retimed 0 g ≡ retimed 0 h
 pub record Writes (g : Group) (bytes : List ℕ) : Type 0 where
   pub group : Group  -- the group so far, with any ticks
   pub alike : Alike group g
-  pub event : Event  -- at any tick
+  pub event : Event  -- at any tick; an install with the rule of request 3 or without
   pub typed : Typed event
   pub accepted : firstOf (table group event) ≡ none
   pub writes : allBytes (effect group event .records) ≡ bytes
@@ -82,7 +82,8 @@ pub record Witness : Type 0 where
 unfoldable pub tried : Group → Event → Witness
 tried g e = record { group = g; event = e }
 
--- install: the target as the records 7 leave it, laid over the one before. A record 7 gives its place these slots and no other
+-- install: the target as the records 7 leave it, laid over the one before. A record 7 gives its place these slots and no other. 'Journals are read without
+-- this rule' (request 3): a slot that it leaves over is no fault
 unfoldable pub laid : ℕ → List ℕ → ℕ → List ℕ → List ℕ
 laid p slots n [] = []
 laid p slots n (e ∷ es) = (if any (eqb n) slots then p else (if eqb e p then noPlace else e)) ∷ laid p slots (suc n) es
@@ -94,7 +95,7 @@ unfoldable pub entriesOf : Group → List Record → List ℕ
 entriesOf g rs = foldl laidOver (map (λ s. s .target) (g .slots)) (targetsIn rs)
 
 unfoldable pub installing : Group → List Record → ℕ → Witness
-installing g rs n = tried g (install (pos n) (entriesOf g rs))
+installing g rs n = tried g (install withoutRule (pos n) (entriesOf g rs))
 
 -- leave and sweep: a sweep of the places gone, if those were last heard a session timeout before
 unfoldable pub sessionBefore : ℕ → ℕ
@@ -175,7 +176,7 @@ unfoldable pub isTyped : Event → Bool
 isTyped (heartbeat b) = (eqb (length (b .id)) idLength && ltb (default 0 (b .subscription)) subscriptionCount) && (isSigned (b .epoch) && isSigned (b .timeout))
 isTyped (sweep tick) = true
 isTyped (topic t id n) = eqb (length id) idLength
-isTyped (install e entries) = isSigned e
+isTyped (install rule e entries) = isSigned e
 
 abbrev pub passes : Option Refusal → Bool
 passes none = true

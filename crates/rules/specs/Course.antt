@@ -107,7 +107,7 @@ abbrev pub Typed : Event → Type 0
 Typed (heartbeat b) = (length (b .id) ≡ idLength) × Subscribing (b .subscription)
 Typed (sweep tick) = Unit {0}
 Typed (topic t id n) = length id ≡ idLength
-Typed (install e entries) = Unit {0}
+Typed (install rule e entries) = Unit {0}
 
 abbrev pub AllTyped : List Call → Type 0
 AllTyped [] = Unit {0}

@@ -32,6 +32,11 @@ unfolding firstOf
 none-of [] more a e = e
 none-of ((r when b) ∷ rows) more a e = rw (a .0) (none-of rows more (a .1) e)
 
+-- where no row applies, none is the first
+pub rows-none : (rows : List Row) → AllFalse rows → firstOf rows ≡ none
+unfolding firstOf
+rows-none rows h = sym (ap firstOf (append-nil rows)) ∙ none-of rows [] h refl
+
 pub rows-false : (g : Group) (e : Event) → firstOf (table g e) ≡ none → AllFalse (table g e)
 rows-false g e h = none-first (table g e) [] (ap firstOf (append-nil (table g e)) ∙ h)
 

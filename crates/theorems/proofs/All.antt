@@ -8,6 +8,7 @@ use Rattle.theorems.proofs.Emptying.{accepted-join, accepted-leave, acc
 use Rattle.theorems.proofs.Removing.{leave-at-end, sweep-at-end, swept-is-difference}
 use Rattle.theorems.proofs.Revoking.{accepted-ordinary}
 use Rattle.theorems.proofs.Untouched.{accepted-install, accepted-topic, same-count}
+use Rattle.theorems.proofs.LeftOver.{first-reported, none-left-over, read-without-rule}
 use Rattle.theorems.proofs.Sizes.{batch-fits, never-room}
 use Rattle.theorems.proofs.Ids.{member-ids, same-count-accepted, sized, topic-ids}
 use Rattle.theorems.proofs.Inheriting.{nobody-inherits}
@@ -30,6 +31,9 @@ theorems = record {
   acceptedSweep = accepted-sweep;
   acceptedTopic = accepted-topic;
   acceptedInstall = accepted-install;
+  noneLeftOver = none-left-over;
+  firstReported = first-reported;
+  readWithoutRule = read-without-rule;
   epochsOrdered = epochs-ordered;
   sized = sized;
   nobodyInherits = nobody-inherits;

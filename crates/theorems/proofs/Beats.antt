@@ -190,7 +190,7 @@ heartbeats-only : (X : Request → Type 0) (P : Event → Type 0) → ((b : Requ
 heartbeats-only X P f (heartbeat b) x = f b x
 heartbeats-only X P f (sweep tick) x = absurd x
 heartbeats-only X P f (topic t id n) x = absurd x
-heartbeats-only X P f (install e entries) x = absurd x
+heartbeats-only X P f (install rule e entries) x = absurd x
 
 -- what a regular heartbeat's effect has, the group after a regular call has
 pub on-beat : (c : Course) (t : Call) → RInvC c → RegularCall c t → (S : Event → Group → Type 0)

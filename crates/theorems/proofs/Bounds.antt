@@ -102,4 +102,4 @@ unfolding effect table sweepEffect sweepOf sweepEpoch changed topicEffect topicE
 accepted-last g (heartbeat b) h rows = heartbeat-last g h b (kindOf (b .epoch)) (rows .1)
 accepted-last g (sweep tick) h rows = if-cases (λ n. n ≤ lastEpoch) (empty (overduePlaces g tick)) (λ _. h) (λ _. raised-last (g .epoch) h)
 accepted-last g (topic t id n) h rows = raise-last g (topicRaises g t n) h (rows .1 .0)
-accepted-last g (install e entries) h rows = h
+accepted-last g (install rule e entries) h rows = h

@@ -44,7 +44,7 @@ unfolding effect sweepEffect sweepOf changed topicEffect withTopic topicEpoch in
 effect-rises g h (heartbeat b) = heartbeat-rises g b (kindOf (b .epoch))
 effect-rises g h (sweep tick) = rises g _ (sweep-next g (overduePlaces g tick)) (omega arith)
 effect-rises g h (topic t id n) = rises g _ (next-if (topicRaises g t n) (g .epoch)) (omega arith)
-effect-rises g h (install e entries) = rises g _ (next-if false (g .epoch)) h
+effect-rises g h (install rule e entries) = rises g _ (next-if false (g .epoch)) h
 
 -- ---- the sender's E
 

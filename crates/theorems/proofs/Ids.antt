@@ -125,7 +125,7 @@ accepted-topics g (sweep tick) typed v rows = v
 accepted-topics g (topic t id n) typed v rows =
     let good = good-topic g t n id (rows .0) in
     topic-put (g .topics) t (record { id = id; count = n }) (omega (arith, good .number, v .long)) ((typed, good .nonzero), good .least, good .most) (good .others) v
-accepted-topics g (install e entries) typed v rows = v
+accepted-topics g (install rule e entries) typed v rows = v
 
 reached-topics : (g : Group) → Reached g → Topics (g .topics)
 unfolding fresh retimed

@@ -6,21 +6,20 @@ use mathlib.Core.Logic.{_≢_}
 use mathlib.Core.Bool.{Bool, true, false, true≢false}
 use mathlib.Core.List.{List, []}
 use mathlib.Core.Option.{none, some}
-use lib.ListN.{length, getD, replicate}
-use lib.Dec.{eqb, ltb}
+use lib.ListN.{getD, replicate}
+use lib.Dec.{eqb}
 use borrow.Author.Tests.{eqb-true, ne-eqb}
 use Rattle.rules.specs.Basics.{indices}
 use Rattle.rules.specs.Constants.{maxMembers, noPlace, slotCount}
 use Rattle.rules.specs.Group.{Group, Member, SlotState, assigned, freeSlot, fresh, revoking, setA, setM, setP, targeted}
 use Rattle.rules.specs.Event.{Event, Request, heartbeat, install, sweep, topic}
-use Rattle.rules.specs.Refusals.{Kind, firstBad, heartbeatTable, invalid, joins, kindOf, leaves, ordinary, table}
+use Rattle.rules.specs.Refusals.{Kind, heartbeatTable, invalid, joins, kindOf, leaves, ordinary, table}
 use Rattle.rules.specs.Effects.{overdue}
 use Rattle.rules.specs.Step.{step}
 use Rattle.rules.specs.Course.{stepped}
 use Rattle.rules.specs.Batches.{retimed}
 use Rattle.rules.specs.Accepted.{Accepted, AfterInstall, AfterLeave, AfterSweep, AfterTopic, Bare, Stays}
 use Rattle.rules.specs.Theorems.{NobodyInherits, Reached}
-use Rattle.rules.proofs.Lists.{not-is-false}
 use Rattle.theorems.proofs.Cases.{by-cases, eq-cases, never, none-not}
 use Rattle.theorems.proofs.Picks.{blank-at, indices-none}
 use Rattle.theorems.proofs.Retimed.{none-retimed}
@@ -30,7 +29,7 @@ use Rattle.theorems.proofs.Slots.{free-revoking, not-assigned}
 use Rattle.theorems.proofs.Vacating.{bare-stays}
 use Rattle.theorems.proofs.Emptying.{accepted-join, accepted-leave, accepted-sweep, placed}
 use Rattle.theorems.proofs.Revoking.{accepted-ordinary}
-use Rattle.theorems.proofs.Untouched.{accepted-install, accepted-topic, entry-occupied}
+use Rattle.theorems.proofs.Untouched.{GoodTarget, accepted-install, accepted-topic, entry-occupied, good-target}
 use Rattle.theorems.proofs.Ids.{sized}
 
 abbrev VacantBare : Group → Type 0
@@ -79,11 +78,11 @@ module _ (g h : Group) (v : VacantBare g) where
       let b = v p l n in
       record { assigned = a .assigned p ∙ b .assigned; revoking = a .revoking p ∙ b .revoking; targeted = a .targeted p ∙ unnamed p l n }
 
-unnamed : (g : Group) (entries : List ℕ) → length entries ≡ slotCount → ltb (firstBad g entries) slotCount ≡ false
+unnamed : {rule : Bool} (g : Group) (entries : List ℕ) → GoodTarget rule g entries
     → (p : ℕ) → p < maxMembers → getD (g .members) p none ≡ none → indices (λ e. eqb e p) 0 entries ≡ []
-unnamed g entries long good p l n =
+unnamed g entries good p l n =
     indices-none (λ e. eqb e p) noPlace entries 0
-    (λ i _. never (eqb (getD entries i noPlace) p) (λ e. entry-occupied g entries long good i p (placed p l) (eqb-true (getD entries i noPlace) p e) n))
+    (λ i _. never (eqb (getD entries i noPlace) p) (λ e. entry-occupied good i p (placed p l) (eqb-true (getD entries i noPlace) p e) n))
 
 -- ---- every kind of event
 
@@ -98,10 +97,9 @@ keeps g r v (heartbeat b) buffer list ok = pick (kindOf (b .epoch)) refl
     pick (ordinary n) e = let a = accepted-ordinary b n e g buffer list (sized g r) ok in after-put g _ v (a .place) (a .member) (a .here) (a .others)
 keeps g r v (sweep tick) buffer list ok = after-sweep g _ v tick (accepted-sweep tick g buffer list (sized g r) ok)
 keeps g r v (topic t id n) buffer list ok = after-topic g _ v t n id (accepted-topic t n id g buffer list (sized g r) ok)
-keeps g r v (install x entries) buffer list ok =
-    let rows = no-row g (install x entries) buffer list ok in
-    let long = eqb-true (length entries) slotCount (not-is-false (eqb (length entries) slotCount) (rows .0)) in
-    after-install g _ v entries (unnamed g entries long (rows .1 .1 .1 .0)) (accepted-install x entries g buffer list (sized g r) ok)
+keeps g r v (install rule x entries) buffer list ok =
+    let good = good-target rule g x entries (no-row g (install rule x entries) buffer list ok) in
+    after-install g _ v entries (unnamed g entries good) (accepted-install rule x entries g buffer list (sized g r) ok)
 
 pub nobody-inherits : NobodyInherits
 unfolding fresh stepped retimed

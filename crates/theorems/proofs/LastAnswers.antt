@@ -41,7 +41,7 @@ module _ (id list stored : List ℕ) where
   by-event (heartbeat b) (Refused r) stays new = stays (λ A f n. refl)
   by-event (sweep tick) a stays new = stays (λ A f n. refl)
   by-event (topic t i n) a stays new = stays (λ A f n. refl)
-  by-event (install e entries) a stays new = stays (λ A f n. refl)
+  by-event (install rule e entries) a stays new = stays (λ A f n. refl)
 
 by-sender : {B : Type 0} (o : Observation) (id : List ℕ) → (Stays o id → B) → ((b : Request) (a : Assignment) → Renewed o id b a → B) → B
 by-sender o id = by-event id (o .list) (o .stored) (o .event) (o .answer)

@@ -4,16 +4,15 @@ use Prim.Native.Nat.{ℕ, _≤_, _<_}
 use native.Mathlib.Omega.{arith}
 use mathlib.Core.Path.{_≡_, refl, sym, ap, _∙_, subst}
 use mathlib.Core.Logic.{_≢_}
-use mathlib.Core.Bool.{true, false}
+use mathlib.Core.Bool.{Bool, true}
 use mathlib.Core.List.{List, map}
 use mathlib.Core.Option.{Option, none}
 use lib.ListN.{length, getD, set, replicate, length-map, length-replicate, length-set}
-use lib.Dec.{eqb, ltb}
-use borrow.Author.Tests.{eqb-true}
+use lib.Dec.{eqb}
 use Rattle.rules.specs.Constants.{lastEpoch, maxMembers, noPlace, slotCount}
 use Rattle.rules.specs.Group.{Group, Member, SlotState, freeSlot, fresh, known, memberAt, placeOf}
 use Rattle.rules.specs.Event.{Event, Request, heartbeat, install, sweep, topic}
-use Rattle.rules.specs.Refusals.{Kind, firstBad, firstOf, heartbeatTable, invalid, joins, kindOf, leaves, ordinary, senderOf, table}
+use Rattle.rules.specs.Refusals.{Kind, firstOf, heartbeatTable, invalid, joins, kindOf, leaves, ordinary, senderOf, table}
 use Rattle.rules.specs.Effects.{advanced, changed, effect, heartbeatEffect, installEffect, joinAt, joinEffect, joiner, leaveAt, leaveEffect, memberAfter, ordinaryAt, overduePlaces, remove, retargeted, slotsAfter, sweepEffect, sweepOf, topicEffect, vacated, withTarget, withTopic}
 use Rattle.rules.specs.Step.{carryOut}
 use Rattle.rules.specs.Course.{Typed}
@@ -30,7 +29,7 @@ use Rattle.theorems.proofs.SingleHolder.{known-id}
 use Rattle.theorems.proofs.Epochs.{effect-rises, sender-rises}
 use Rattle.theorems.proofs.Reachable.{member-known}
 use Rattle.theorems.proofs.Bounds.{InRange, accepted-last, in-range-later, joiner-in-range, member-after-in-range}
-use Rattle.theorems.proofs.Untouched.{entry-placed}
+use Rattle.theorems.proofs.Untouched.{GoodTarget, entry-placed, good-target}
 
 -- ---- the tables: an entry for each place and slot, and the target of a slot a place or none
 
@@ -62,13 +61,13 @@ module _ {ms : List (Option Member)} {ss : List SlotState} (v : Tables ms ss) (p
   }
 
 -- an install names places with a member
-tables-retargeted : (g : Group) → Tables (g .members) (g .slots) → (entries : List ℕ) → length entries ≡ slotCount → ltb (firstBad g entries) slotCount ≡ false
+tables-retargeted : {rule : Bool} (g : Group) → Tables (g .members) (g .slots) → (entries : List ℕ) → GoodTarget rule g entries
     → Tables (g .members) (retargeted (g .slots) entries)
 unfolding targetIn
-tables-retargeted g v entries long good = record {
+tables-retargeted g v entries good = record {
   places = v .places;
   wide = length-retargeted (g .slots) entries ∙ v .wide;
-  targets = λ s. subst Aimed (sym (target-retargeted (g .slots) entries s (v .wide ∙ sym long))) (λ h. omega (arith, entry-placed g entries long good s h, v .places));
+  targets = λ s. subst Aimed (sym (target-retargeted (g .slots) entries s (v .wide ∙ sym (good .long)))) (λ h. omega (arith, entry-placed good s h, v .places));
 }
 
 module _ (g : Group) (v : Tables (g .members) (g .slots)) where
@@ -84,8 +83,7 @@ module _ (g : Group) (v : Tables (g .members) (g .slots)) where
   effect-tables (heartbeat b) rows = heartbeat-tables b (kindOf (b .epoch))
   effect-tables (sweep tick) rows = removed-keep (λ h. Tables (h .members) (h .slots)) (λ h p u. tables-vacated u p none) (overduePlaces g tick) g v
   effect-tables (topic t id n) rows = v
-  effect-tables (install e entries) rows =
-      tables-retargeted g v entries (eqb-true (length entries) slotCount (not-is-false (eqb (length entries) slotCount) (rows .0))) (rows .1 .1 .1 .0)
+  effect-tables (install rule e entries) rows = tables-retargeted g v entries (good-target rule g e entries rows)
 
 -- ---- T is at most G
 
@@ -101,7 +99,7 @@ unfolding effect sweepEffect sweepOf changed topicEffect withTopic installEffect
 effect-order g h (heartbeat b) = omega (arith, h, effect-rises g h (heartbeat b) .epoch, heartbeat-target g b (kindOf (b .epoch)))
 effect-order g h (sweep tick) = omega (arith, h, effect-rises g h (sweep tick) .epoch)
 effect-order g h (topic t id n) = omega (arith, h, effect-rises g h (topic t id n) .epoch)
-effect-order g h (install e entries) = omega arith
+effect-order g h (install rule e entries) = omega arith
 
 -- ---- the invariant
 

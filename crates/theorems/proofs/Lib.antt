@@ -24,6 +24,7 @@ pub mod Emptying
 pub mod Removing
 pub mod Revoking
 pub mod Untouched
+pub mod LeftOver
 pub mod Bounds
 pub mod Legible
 pub mod Readable

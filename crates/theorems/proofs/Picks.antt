@@ -129,6 +129,40 @@ none-fails f n (x ∷ xs) h d i lt = pick (f n x) refl h i lt (none-fails f (suc
     pick false e k zero b ih = rw (add-zero n) e
     pick false e k (suc i) b ih = rw (add-suc n i ∙ sym (suc-add n i)) (ih (omega arith) d i (omega arith))
 
+first-least : (f : ℕ → ℕ → Bool) (n : ℕ) (l : List ℕ) → n ≤ firstWith f n l
+unfolding firstWith
+first-least f n [] = omega arith
+first-least f n (x ∷ xs) = if-cases (λ (k : ℕ). n ≤ k) (f n x) (λ _. omega arith) (λ _. let h = first-least f (suc n) xs in omega arith)
+
+-- the first that fails does, and none before it
+pub first-fails : (f : ℕ → ℕ → Bool) (n : ℕ) (l : List ℕ) (d i : ℕ) → i < length l → firstWith f n l ≡ n + i
+    → (f (n + i) (getD l i d) ≡ true) × ((j : ℕ) → j < i → f (n + j) (getD l j d) ≡ false)
+unfolding firstWith
+first-fails f n [] d i lt e = absurd (omega arith)
+first-fails f n (x ∷ xs) d i lt e = pick (f n x) refl i lt e (first-fails f (suc n) xs d)
+  where
+    before : (i : ℕ) → f n x ≡ false → ((j : ℕ) → j < i → f (suc n + j) (getD xs j d) ≡ false) → (j : ℕ) → j < suc i → f (n + j) (getD (x ∷ xs) j d) ≡ false
+    before i q r zero k = rw (add-zero n) q
+    before i q r (suc j) k = rw (add-suc n j ∙ sym (suc-add n j)) (r j (omega arith))
+
+    pick : (c : Bool) → f n x ≡ c → (i : ℕ) → i < suc (length xs) → (if c then n else firstWith f (suc n) xs) ≡ n + i
+        → ((i : ℕ) → i < length xs → firstWith f (suc n) xs ≡ suc n + i → (f (suc n + i) (getD xs i d) ≡ true) × ((j : ℕ) → j < i → f (suc n + j) (getD xs j d) ≡ false))
+        → (f (n + i) (getD (x ∷ xs) i d) ≡ true) × ((j : ℕ) → j < i → f (n + j) (getD (x ∷ xs) j d) ≡ false)
+    pick true q zero b h ih = (rw (add-zero n) q, λ j k. absurd (omega arith))
+    pick true q (suc i) b h ih = absurd (omega arith)
+    pick false q zero b h ih = absurd (omega (arith, first-least f (suc n) xs))
+    pick false q (suc i) b h ih =
+        let r = ih i (omega arith) (omega arith) in
+        (rw (add-suc n i ∙ sym (suc-add n i)) (r .0), before i q (r .1))
+
+-- where whatever passes one test passes another, the first that fails that comes no earlier
+pub first-later : (f h : ℕ → ℕ → Bool) → ((n x : ℕ) → f n x ≡ false → h n x ≡ false) → (n : ℕ) (l : List ℕ) → firstWith f n l ≤ firstWith h n l
+unfolding firstWith
+first-later f h weaker n [] = omega arith
+first-later f h weaker n (x ∷ xs) =
+    let rest = first-later f h weaker (suc n) xs in
+    by-cases (f n x) (λ e. rw e (first-least h n (x ∷ xs))) (λ e. rw (e, weaker n x e) rest)
+
 -- ---- numbers kept of those below a bound
 
 pub keep-in : (f : ℕ → Bool) (l : List ℕ) (x : ℕ) → List·Memᴰ x l → f x ≡ true → List·Memᴰ x (keep f l)

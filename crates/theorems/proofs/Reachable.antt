@@ -229,7 +229,7 @@ unfolding inForceAfter lastAfter subscriptionAfter effect table installEffect in
 rest-accepted last h g (heartbeat b) buffer list typed v rows = rest-after last h g v b (typed .0) buffer list (kindOf (b .epoch)) (rows .1)
 rest-accepted last h g (sweep tick) buffer list long v rows = sweep-rest last h g v tick buffer
 rest-accepted last h g (topic t id n) buffer list long v rows = topic-rest last h g v t id n long buffer
-rest-accepted last h g (install e entries) buffer list long v rows = record {
+rest-accepted last h g (install rule e entries) buffer list long v rows = record {
   base = base-install (v .base) entries;
   inForce = install-in-force last h g v e entries (eqb-true (length entries) slotCount (not-is-false (eqb (length entries) slotCount) (rows .0))) (not-is-false (isEpoch e (g .epoch)) (rows .1 .0));
 }
@@ -239,7 +239,7 @@ unfolding inForceAfter lastAfter subscriptionAfter unlessEpoch recordsIn readAll
 rest-refused last h g (heartbeat b) r list v = record { base = v .base; inForce = v .inForce }
 rest-refused last h g (sweep tick) r list v = record { base = v .base; inForce = v .inForce }
 rest-refused last h g (topic t id n) r list v = record { base = v .base; inForce = v .inForce }
-rest-refused last h g (install e entries) r list v = record { base = v .base; inForce = v .inForce }
+rest-refused last h g (install rule e entries) r list v = record { base = v .base; inForce = v .inForce }
 
 rest-turn : (last : List ℕ → Told) (h : History) (g : Group) (t : Call) → Typed (t .event) → RInv last h g → RestOf last h (seenOf (t .event) (stepped g t)) (stepped g t .group)
 unfolding stepped carryOut seenOf

@@ -97,7 +97,7 @@ module _ (Q : ℕ → Member → Type 0) (g : Group) (stays : (e : ℕ) (m : Mem
       let gone = overduePlaces g tick in
       removed-keep (λ h. Each (Q (sweepEpoch g gone)) (h .members)) (λ h p. each-none (Q (sweepEpoch g gone)) (h .members) p) gone g (later _ (sweep-next g gone .0))
   effect-each (topic t id n) ok rows = later _ (next-if (topicRaises g t n) (g .epoch) .0)
-  effect-each (install e entries) ok rows = each
+  effect-each (install rule e entries) ok rows = each
 
 -- what every joiner has, every ordinary heartbeat keeps and no tick matters to, each member of a reached group has
 pub members-have : (Q : Member → Type 0) → ((g : Group) (b : Request) → Typed (heartbeat b) → AllFalse (heartbeatTable g b joins) → Q (joiner g b))

@@ -64,7 +64,7 @@ module _ (g : Group) (wide : length (g .slots) ≡ slotCount) where
   effect-proper (heartbeat b) typed rows = heartbeat-proper b (typed .0) (kindOf (b .epoch)) (above (b .epoch)) (rows .1)
   effect-proper (sweep tick) typed rows = proper-append (concatMap (removalRecords (g .slots)) (overduePlaces g tick)) _ (proper-removals g (overduePlaces g tick)) (proper-epoch _ _)
   effect-proper (topic t id n) typed rows = proper-only (topicChanges g t n) (topicIs (record { number = t; id = id; count = n })) _ typed (proper-epoch _ _)
-  effect-proper (install e entries) typed rows =
+  effect-proper (install rule e entries) typed rows =
       proper-append (concatMap (targetRecord (g .slots) (retargeted (g .slots) entries)) (upTo 0 maxMembers)) _
       (target-proper (g .slots) (retargeted (g .slots) entries) (length-retargeted (g .slots) entries ∙ wide) (upTo 0 maxMembers))
       (tt, tt)

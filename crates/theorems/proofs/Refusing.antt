@@ -43,7 +43,7 @@ unfolding effect sweepEffect sweepOf topicEffect installEffect
 effect-accepts g (heartbeat b) r e = heartbeat-accepts g b (kindOf (b .epoch)) r e
 effect-accepts g (sweep tick) r e = let z : _≡_ {A = ℕ} 0 1 = cc in omega arith
 effect-accepts g (topic t id n) r e = let z : _≡_ {A = ℕ} 0 1 = cc in omega arith
-effect-accepts g (install x entries) r e = let z : _≡_ {A = ℕ} 0 1 = cc in omega arith
+effect-accepts g (install rule x entries) r e = let z : _≡_ {A = ℕ} 0 1 = cc in omega arith
 
 -- ---- a refusal changes nothing
 
@@ -75,7 +75,7 @@ unfolding roomFree table
 table-rows g (heartbeat b) = heartbeat-rows g b (kindOf (b .epoch))
 table-rows g (sweep tick) = refl
 table-rows g (topic t id n) = refl
-table-rows g (install x entries) = refl
+table-rows g (install rule x entries) = refl
 
 -- 1003 comes from the row after the others, where none of them applies and its own test does
 room-last : (rows : List Row) (test : Bool) → roomFree rows ≡ true → firstOf (rows ++ (Room when test) ∷ []) ≡ some Room → (firstOf rows ≡ none) × (test ≡ true)
@@ -88,7 +88,7 @@ room-last ((r when true) ∷ rows) test h e =
 room-last ((r when false) ∷ rows) test h e = room-last rows test (and-true (not (eqb (numberOf r) (numberOf Room))) (roomFree rows) h .1) e
 
 -- where no row applies, the row after them decides
-last-row : (rows : List Row) (r : Refusal) (test : Bool) → firstOf rows ≡ none → firstOf (rows ++ (r when test) ∷ []) ≡ (if test then some r else none)
+pub last-row : (rows : List Row) (r : Refusal) (test : Bool) → firstOf rows ≡ none → firstOf (rows ++ (r when test) ∷ []) ≡ (if test then some r else none)
 unfolding firstOf
 last-row [] r test h = refl
 last-row ((s when true) ∷ rows) r test h = absurd (no-some s (sym h))

@@ -419,7 +419,7 @@ unfolding holderIn reckon afterAccepted effect table sweepEffect sweepOf sweepEp
 accepted l g (heartbeat b) buffer list typed v rows = after-heartbeat l g v b (typed .0) buffer list (kindOf (b .epoch)) (rows .1)
 accepted l g (sweep tick) buffer list long v rows = rw (gone-stored g tick buffer) (all-removed (overduePlaces g tick) l g v)
 accepted l g (topic t id n) buffer list long v rows = v
-accepted l g (install e entries) buffer list long v rows = rehold v (λ s. same-retargeted (g .slots) entries s .holder)
+accepted l g (install rule e entries) buffer list long v rows = rehold v (λ s. same-retargeted (g .slots) entries s .holder)
 
 pub turn-inv : (l : Ledger) (g : Group) (t : Call) → Typed (t .event) → InvG l g → InvG (reckon l (seenOf (t .event) (stepped g t))) (stepped g t .group)
 unfolding stepped carryOut reckon seenOf

@@ -322,7 +322,7 @@ module _ (g : Group) (v : Legible g) where
   effect-fits (topic t id n) typed rows =
       let good = good-topic g t n id (rows .0) in
       record { records = topic-records-size _ (record { number = t; id = id; count = n }) _ _ (good .number) typed (good .most) (accepted-last g (topic t id n) (v .last) rows) .size; told = omega arith }
-  effect-fits (install e entries) typed rows = record {
+  effect-fits (install rule e entries) typed rows = record {
     records = install-size (g .slots) (retargeted (g .slots) entries) (g .epoch) (omega (arith, length-retargeted (g .slots) entries, v .wide)) (v .last) .size;
     told = omega arith;
   }

@@ -47,7 +47,7 @@ module _ (l : Ledger) (slots bytes : List ℕ) where
   accepted-less (heartbeat b) = heartbeat-less b (kindOf (b .epoch))
   accepted-less (sweep tick) = less-refl _
   accepted-less (topic t id n) = less-refl _
-  accepted-less (install e entries) = less-refl _
+  accepted-less (install rule e entries) = less-refl _
 
 -- the ledger after the answer a, where the lent list is this
 abbrev after : Ledger → Observation → List ℕ → Answer → Ledger

@@ -1,11 +1,13 @@
 -- What accepted topics and installs leave, and what they leave alone; a topic with the count that it has changes nothing.
-use Prim.Native.Nat.{ℕ, suc, _+_, _<_, _≤_}
+use Prim.Native.Nat.{ℕ, suc, _<_, _≤_}
+use native.Mathlib.Nat.{zero-add}
 use native.Mathlib.Omega.{arith}
 use mathlib.Core.Path.{_≡_, refl, sym, ap, _∙_}
 use mathlib.Core.Logic.{_≢_, _⊎_, inl, inr}
 use mathlib.Core.Bool.{Bool, true, false, not, _&&_, true≢false}
 use mathlib.Core.List.{List}
 use mathlib.Core.Option.{Option, none, some}
+use lib.IntN.{ℤ}
 use lib.ListN.{length, getD, set, List·getD-eq-default}
 use lib.Seq.{getD-set-other, getD-set-same, set-getD}
 use lib.Dec.{eqb, leb, ltb}
@@ -15,14 +17,14 @@ use Rattle.rules.specs.Constants.{maxPartitions, noPlace, slotCount, topicCount
 use Rattle.rules.specs.Group.{Group, Topic, assigned, exists, revoking, subscribes, targeted}
 use Rattle.rules.specs.Records.{allBytes}
 use Rattle.rules.specs.Event.{install, topic}
-use Rattle.rules.specs.Refusals.{allows, badEntry, countChanges, firstBad, hasId, table, topicBad, topicChanges, topicRaises, zeroId}
+use Rattle.rules.specs.Refusals.{allows, badEntry, countChanges, firstBad, hasId, misplaced, table, topicBad, topicChanges, topicRaises, zeroId}
 use Rattle.rules.specs.Effects.{effect, installEffect, onlyIf, topicEffect, topicEpoch, topicRecords, withTarget, withTopic}
 use Rattle.rules.specs.Step.{carryOut, overlay}
 use Rattle.rules.specs.Accepted.{AcceptedInstall, AcceptedTopic, AfterInstall, AfterTopic, SameCount}
 use Rattle.rules.proofs.Lists.{and-true, not-is-false, or-false, same-eq}
 use Rattle.theorems.proofs.Cases.{by-cases}
 use Rattle.theorems.proofs.Picks.{none-fails}
-use Rattle.theorems.proofs.Accepting.{carried, no-row, after-accepted}
+use Rattle.theorems.proofs.Accepting.{AllFalse, carried, no-row, after-accepted}
 use Rattle.theorems.proofs.Moves.{A-retargeted, M-retargeted, P-retargeted}
 
 -- ---- topic
@@ -118,17 +120,27 @@ same-count g t n id k buffer list h e accepted =
 -- ---- install
 
 -- an entry for a place with no member is bad
-vacant-bad : (g : Group) (s p : ℕ) → p ≢ noPlace → getD (g .members) p none ≡ none → badEntry g s p ≡ true
-unfolding badEntry subscribes
-vacant-bad g s p h n = by-cases (exists g s) (λ e. rw (ne-eqb p noPlace h, e, n) refl) (λ e. rw (ne-eqb p noPlace h, e) refl)
+vacant-bad : (rule : Bool) (g : Group) (s p : ℕ) → p ≢ noPlace → getD (g .members) p none ≡ none → badEntry rule g s p ≡ true
+unfolding badEntry misplaced subscribes
+vacant-bad rule g s p h n = by-cases (exists g s) (λ e. rw (ne-eqb p noPlace h, e, n) refl) (λ e. rw (ne-eqb p noPlace h, e) refl)
 
--- where no entry is refused, each names a place with a member, or none
-module _ (g : Group) (entries : List ℕ) (long : length entries ≡ slotCount) (good : ltb (firstBad g entries) slotCount ≡ false) where
+-- what rows 1006 let pass
+pub record GoodTarget (rule : Bool) (g : Group) (entries : List ℕ) : Type 0 where
+  pub long : length entries ≡ slotCount
+  pub fine : (s : ℕ) → s < length entries → badEntry rule g s (getD entries s noPlace) ≡ false
+
+pub good-target : (rule : Bool) (g : Group) (epoch : ℤ) (entries : List ℕ) → AllFalse (table g (install rule epoch entries)) → GoodTarget rule g entries
+unfolding table firstBad
+good-target rule g epoch entries rows =
+    let long = eqb-true (length entries) slotCount (not-is-false (eqb (length entries) slotCount) (rows .0)) in
+    let past = ltb-false (firstWith (badEntry rule g) 0 entries) slotCount (rows .1 .1 .1 .0) in
+    record { long = long; fine = λ s l. rw (zero-add s) at (none-fails (badEntry rule g) 0 entries (omega (arith, long, past)) noPlace s l) }
+
+-- each entry names a place with a member, or none
+module _ {rule : Bool} {g : Group} {entries : List ℕ} (good : GoodTarget rule g entries) where
   pub entry-occupied : (s p : ℕ) → p ≢ noPlace → getD entries s noPlace ≡ p → getD (g .members) p none ≢ none
-  unfolding firstBad
   entry-occupied s p h e n = by-cases (ltb s (length entries))
-      (λ l. let fine = none-fails (badEntry g) 0 entries (omega (arith, ltb-false (firstWith (badEntry g) 0 entries) slotCount good)) noPlace s (ltb-true s (length entries) l) in
-      true≢false (sym (vacant-bad g (0 + s) p h n) ∙ ap (badEntry g (0 + s)) (sym e) ∙ fine))
+      (λ l. true≢false (sym (vacant-bad rule g s p h n) ∙ ap (badEntry rule g s) (sym e) ∙ good .fine s (ltb-true s (length entries) l)))
       (λ l. h (sym e ∙ List·getD-eq-default entries noPlace (ltb-false s (length entries) l)))
 
   pub entry-placed : (s : ℕ) → getD entries s noPlace ≢ noPlace → getD entries s noPlace < length (g .members)
@@ -139,10 +151,9 @@ module _ (g : Group) (entries : List ℕ) (long : length entries ≡ slotCount) 
 
 pub accepted-install : AcceptedInstall
 unfolding table effect installEffect withTarget
-accepted-install epoch entries = after-accepted (install epoch entries) (AfterInstall entries) (λ g sized rows.
-    let long = eqb-true (length entries) slotCount (not-is-false (eqb (length entries) slotCount) (rows .0)) in
+accepted-install rule epoch entries = after-accepted (install rule epoch entries) (AfterInstall entries) (λ g sized rows.
     record {
-      targeted = λ p. M-retargeted p (g .slots) entries (sized .slots ∙ sym long);
+      targeted = λ p. M-retargeted p (g .slots) entries (sized .slots ∙ sym (good-target rule g epoch entries rows .long));
       assigned = λ p. A-retargeted p (g .slots) entries;
       revoking = λ p. P-retargeted p (g .slots) entries;
       tick = refl;

@@ -8,10 +8,12 @@ const PARTITIONS: u32 = 64;
 const SLOTS: usize = 1_024;
 pub const NOBODY: u8 = 255;
 const ALL_TOPICS: u16 = u16::MAX;
+const EVEN_TOPICS: u16 = 0x5555;
 const REBALANCE_TIMEOUT: i32 = 300_000;
 const NOT_GIVEN: i32 = -1;
 const JOINS: i32 = 0;
 const FENCED: u16 = 110;
+const BAD_TARGET: u16 = 1006;
 
 /// The tick at which the group is made and settles.
 pub const START: u32 = 1_000;
@@ -31,11 +33,12 @@ pub enum Kind {
     SweepNobody,
     SweepOne,
     Install,
+    InstallRefused,
     Refused,
 }
 
 impl Kind {
-    pub const ALL: [Kind; 9] = [
+    pub const ALL: [Kind; 10] = [
         Kind::RejoinEmpty,
         Kind::RejoinHolding,
         Kind::Quiet,
@@ -44,6 +47,7 @@ impl Kind {
         Kind::SweepNobody,
         Kind::SweepOne,
         Kind::Install,
+        Kind::InstallRefused,
         Kind::Refused,
     ];
 
@@ -57,6 +61,7 @@ impl Kind {
             Kind::SweepNobody => "sweep that removes nobody",
             Kind::SweepOne => "sweep that removes one",
             Kind::Install => "install that changes every target",
+            Kind::InstallRefused => "install refused (1006), its last slot left over",
             Kind::Refused => "heartbeat refused (110)",
         }
     }
@@ -65,7 +70,11 @@ impl Kind {
     /// a copy of the group.
     pub fn spends_its_group(self) -> bool {
         match self {
-            Kind::RejoinEmpty | Kind::Quiet | Kind::SweepNobody | Kind::Refused => false,
+            Kind::RejoinEmpty
+            | Kind::Quiet
+            | Kind::SweepNobody
+            | Kind::InstallRefused
+            | Kind::Refused => false,
             Kind::RejoinHolding
             | Kind::GivesBack
             | Kind::Takes
@@ -87,6 +96,7 @@ impl Kind {
             (Kind::SweepNobody, Outcome::Swept(removed)) => removed == 0,
             (Kind::SweepOne, Outcome::Swept(removed)) => removed == 1,
             (Kind::Install, Outcome::Done) => written > 0,
+            (Kind::InstallRefused, Outcome::Refused(number)) => number == BAD_TARGET,
             (Kind::Refused, Outcome::Refused(number)) => number == FENCED,
             _ => false,
         }
@@ -119,7 +129,7 @@ fn group_for<C: Coordinator>(kind: Kind, members: u8) -> C {
         Kind::GivesBack => retargeted(members),
         Kind::Takes => targeted(members),
         Kind::SweepOne => silent_last(members),
-        Kind::Install => untargeted(members),
+        Kind::Install | Kind::InstallRefused => untargeted(members),
     }
 }
 
@@ -139,6 +149,7 @@ fn events_for<C: Coordinator>(kind: Kind, members: u8, group: &C) -> Vec<Event> 
         Kind::SweepNobody => vec![Event::Sweep { tick: LATER }],
         Kind::SweepOne => vec![Event::Sweep { tick: OVERDUE }],
         Kind::Install => vec![install(group, moved_target(members))],
+        Kind::InstallRefused => vec![install(group, without_last(moved_target(members)))],
     }
 }
 
@@ -170,10 +181,15 @@ fn settled<C: Coordinator>(members: u8) -> C {
     group
 }
 
-/// As settled, but G is above T, for a member changed its subscription and changed it back.
+/// As settled, but G is above T, for a member changed its subscription and changed it back. One member
+/// alone subscribes to every other topic now, for it has nobody to move slots to.
 fn untargeted<C: Coordinator>(members: u8) -> C {
     let mut group: C = settled(members);
-    for subscription in [1, ALL_TOPICS] {
+    let topics = match members {
+        1 => EVEN_TOPICS,
+        _ => ALL_TOPICS,
+    };
+    for subscription in [1, topics] {
         let event = Event::Beat(Beat {
             subscription: Some(subscription),
             ..beat(0, standing(&group, 0), START)
@@ -265,9 +281,13 @@ pub fn even_target(members: u8) -> Vec<u8> {
     (0..SLOTS).map(|slot| (slot % members) as u8).collect()
 }
 
-/// Every other slot of a member goes to the next one, or to nobody where there is one member.
+/// Every other slot of a member goes to the next one. Of one member alone every other topic goes to
+/// nobody.
 pub fn moved_target(members: u8) -> Vec<u8> {
-    let turn = |slot: usize| slot / usize::from(members);
+    let turn = |slot: usize| match members {
+        1 => slot / PARTITIONS as usize,
+        _ => slot / usize::from(members),
+    };
     let moved = |(slot, place): (usize, u8)| match turn(slot) % 2 {
         0 => place,
         _ => next(place, members),
@@ -281,4 +301,13 @@ fn next(place: u8, members: u8) -> u8 {
         1 => NOBODY,
         _ => (place + 1) % members,
     }
+}
+
+/// The last slot that somebody has is left over.
+fn without_last(mut target: Vec<u8>) -> Vec<u8> {
+    let owned = target.iter_mut().rev().find(|entry| **entry != NOBODY);
+    if let Some(entry) = owned {
+        *entry = NOBODY;
+    }
+    target
 }

@@ -3,7 +3,7 @@
 
 use crate::coordinator::{Group, Refusal};
 use crate::event::{Beat, Event, Lent};
-use crate::group::{exists, holds, member_with, subscribes};
+use crate::group::{exists, holds, member_with, members, subscribes};
 use crate::group::{NO_PLACE, PARTITIONS, PLACES, SLOTS, TOPICS};
 use crate::id;
 
@@ -146,22 +146,47 @@ fn bad_target(slot: u16, entries: &[u8], group: &Group) -> String {
     if entries.len() != usize::from(SLOTS) {
         return format!("the list has {} entries, not {SLOTS}", entries.len());
     }
-    let place = entries.get(usize::from(slot)).copied().unwrap_or(NO_PLACE);
-    let slot_name = named(slot);
-    let because = match group.member_at(place) {
-        None if place >= PLACES => format!("the last place is p{}", PLACES - 1),
-        None => format!("p{place} is empty"),
-        Some(_) if !exists(group, slot) => "it does not exist".into(),
-        Some(member) if !subscribes(&member, slot / PARTITIONS) => {
-            let topic = slot / PARTITIONS;
-            format!(
-                "{} does not subscribe to topic {topic}",
-                id::show(&member.id)
-            )
-        }
-        Some(_) => in_general(Refusal::BadTarget { slot }).into(),
+    let reason = match entries.get(usize::from(slot)) {
+        Some(&NO_PLACE) => left_over(slot, group),
+        Some(&place) => misplaced(slot, place, group),
+        None => None,
     };
-    format!("{slot_name} cannot go to p{place}: {because}")
+    reason.unwrap_or_else(|| in_general(Refusal::BadTarget { slot }).into())
+}
+
+/// The first of 01's reasons, in the order of its words.
+fn misplaced(slot: u16, place: u8, group: &Group) -> Option<String> {
+    let topic = slot / PARTITIONS;
+    let because = match group.member_at(place) {
+        _ if place >= PLACES => format!("the last place is p{}", PLACES - 1),
+        None => format!("p{place} is empty"),
+        Some(_) if !exists(group, slot) => "the slot does not exist".into(),
+        Some(member) if !subscribes(&member, topic) => {
+            format!("{} does not subscribe to t{topic}", id::show(&member.id))
+        }
+        Some(_) => return None,
+    };
+    Some(format!("{} cannot go to p{place}: {because}", named(slot)))
+}
+
+/// 02's: "an existing slot has no owner while some member subscribes to its topic".
+fn left_over(slot: u16, group: &Group) -> Option<String> {
+    if !exists(group, slot) {
+        return None;
+    }
+    let topic = slot / PARTITIONS;
+    let members = members(group).into_iter();
+    let mut subscribers = members.filter(|(_, member)| subscribes(member, topic));
+    let (place, member) = subscribers.next()?;
+    let first = format!("p{place} ({})", id::show(&member.id));
+    let who = match subscribers.count() {
+        0 => format!("{first} subscribes"),
+        more => format!("{first} and {more} more subscribe"),
+    };
+    let slot = named(slot);
+    Some(format!(
+        "{slot} is left over: {who} to t{topic}, and the target gives it to nobody"
+    ))
 }
 
 fn bad_topic(number: u32, id: &[u8; 16], count: u32, group: &Group) -> String {

@@ -78,6 +78,10 @@ impl Group {
     }
 
     /// Sets who is to have each slot: an entry for each of the 1,024, a place or 255 for nobody.
+    ///
+    /// A slot that exists and to whose topic some member subscribes goes to such a member, and every
+    /// other slot to nobody; the first for which that isn't so is refused
+    /// ([`BadTarget`](crate::Refusal::BadTarget)).
     #[inline]
     pub fn install(&mut self, epoch: i32, entries: &[u8], records: &mut [u8]) -> Reply {
         answers::of_change(&ffi::install(&mut self.value, epoch, entries, records))

@@ -15,8 +15,10 @@ pub enum Refusal {
     GroupMaxSizeReached,
     /// 110: an ordinary heartbeat whose epoch isn't the member's.
     FencedMemberEpoch,
-    /// 1006: an install whose list isn't 1,024 long, with slot 65,535; or the first slot that is to go
-    /// to nobody's place, doesn't exist or isn't subscribed to.
+    /// 1006: an install whose list isn't 1,024 long, with slot 65,535; or its first bad slot. That is
+    /// one given away wrongly, because the place is above 31 or empty, the slot doesn't exist or the
+    /// member doesn't subscribe to its topic; or one left over, with 255 though it exists and some
+    /// member subscribes to its topic.
     BadTarget {
         /// The slot that is reported.
         slot: u16,

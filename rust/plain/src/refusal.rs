@@ -19,7 +19,8 @@ pub enum Refusal {
     FencedMemberEpoch,
     /// 1006: "install, list length not 1,024 (slot reported 65,535)"; and again, after 1005: "an
     /// entry not 255 whose place is above 31 or empty, or whose slot doesn't exist, or whose
-    /// member doesn't subscribe (first such slot reported)".
+    /// member doesn't subscribe", or "an existing slot has no owner while some member subscribes to
+    /// its topic. The first bad slot of either sort is reported."
     BadTarget { slot: u16 },
     /// 1004: "install, epoch is not G".
     Stale,

@@ -1,5 +1,7 @@
 //! Situations that events come to, told from the group before and after them.
 
+mod left_over;
+
 use crate::data::{Event, Turn};
 use crate::labels::labels;
 use crate::reader::Record;
@@ -34,12 +36,31 @@ labels! {
         LongerBuffer = "a buffer one byte longer",
         ExactList = "a list of just the slots",
         LongerList = "a list one slot longer",
+        LeftOverFirst = "refused, the first of the wanted slots left over",
+        LeftOverBetween = "refused, one between them left over",
+        LeftOverLast = "refused, the last of them left over",
+        LeftOverAtEnd = "refused, slot 1,023 left over",
+        LeftOverBeforeOther = "refused, a slot left over before one bad otherwise",
+        OtherBeforeLeftOver = "refused, a slot bad otherwise before one left over",
+        UnwantedLeft = "an install that leaves slots nobody subscribes to",
+        HoleByTopic = "a hole by a topic that grew, T was G",
+        HoleByTopicLater = "a hole by a topic that grew, T was below G",
+        HoleByLeave = "a hole by a leave, T was G",
+        HoleByLeaveLater = "a hole by a leave, T was below G",
+        HoleBySweep = "a hole by a sweep, T was G",
+        HoleBySweepLater = "a hole by a sweep, T was below G",
+        HoleBySubscription = "a hole by a changed subscription, T was G",
+        HoleBySubscriptionLater = "a hole by a changed subscription, T was below G",
+        HoleInForce = "a hole while T stays G",
     }
 }
 
 pub fn is_reached(situation: Situation, turn: &Turn, step: &Step) -> bool {
     use Situation::*;
     let (before, after) = (step.before, step.after);
+    if step.earned.due.is_some() {
+        return left_over::is_reached_by_refusal(situation, turn, step);
+    }
     match situation {
         Gained | Moved | Freed | FreedAndBack | FreedAndMoved | KeptByPart | KeptByNoList
         | StepOneAlone => is_reached_by_sender(situation, turn, step),
@@ -59,6 +80,7 @@ pub fn is_reached(situation: Situation, turn: &Turn, step: &Step) -> bool {
         LongerBuffer => turn.buffer > 1 && step.reply.written == turn.buffer - 1,
         ExactList => turn.list > 0 && step.slots.len() == turn.list,
         LongerList => turn.list > 1 && step.slots.len() == turn.list - 1,
+        _ => left_over::is_reached(situation, turn, step),
     }
 }
 

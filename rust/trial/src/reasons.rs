@@ -1,5 +1,6 @@
-//! 01's table read a third time, over a snapshot of the group: which rows an event earns, and by
-//! which reason. It tells apart what the numbers alone do not (the two rows 42, the two rows 1006).
+//! 01's table, with 02's amendments, read a third time, over a snapshot of the group: which rows an
+//! event earns, and by which reason. It tells apart what the numbers alone do not (the two rows 42,
+//! the two rows 1006).
 
 use crate::coordinator::Coordinator;
 use crate::data::{
@@ -13,7 +14,7 @@ const CLOCK_WENT_BACK: u32 = 1 << 31;
 const LARGEST_EPOCH: i32 = 2_147_483_647;
 
 labels! {
-    /// The rows of 01's table.
+    /// The rows of the table.
     pub enum Row {
         Clock = "1001 CLOCK",
         Invalid = "42 INVALID_REQUEST",
@@ -57,6 +58,7 @@ labels! {
         PlaceEmpty = "place empty",
         SlotMissing = "slot doesn't exist",
         NotSubscribed = "member doesn't subscribe",
+        LeftOver = "slot left over",
         TopicNumber = "number above 15",
         TopicCount = "count not 1 to 64",
         TopicZeroId = "ID zero",
@@ -95,7 +97,7 @@ impl Reason {
             TargetLength => Row::TargetLength,
             Stale => Row::Stale,
             Already => Row::Already,
-            PlaceAbove | PlaceEmpty | SlotMissing | NotSubscribed => Row::TargetEntry,
+            PlaceAbove | PlaceEmpty | SlotMissing | NotSubscribed | LeftOver => Row::TargetEntry,
             TopicNumber | TopicCount | TopicZeroId | TopicIdTaken | TopicOtherId | TopicFalling => {
                 Row::BadTopic
             }
@@ -151,7 +153,8 @@ pub fn before_room<'a>(
                 target_length(entries),
                 (*epoch != group.epoch).then_some(plain(Reason::Stale)),
                 (group.target_epoch == group.epoch).then_some(plain(Reason::Already)),
-                bad_entry(entries, group),
+                // "The first bad slot of either sort is reported."
+                bad_entries(entries, group).next(),
             ];
             Box::new(rows.into_iter().flatten())
         }
@@ -317,19 +320,27 @@ fn target_length(entries: &[u8]) -> Option<Why> {
     })
 }
 
-/// "first such slot reported".
-fn bad_entry(entries: &[u8], group: &Snapshot) -> Option<Why> {
-    let mut entries = entries.iter().take(SLOTS).enumerate();
-    entries.find_map(|(slot, &entry)| {
+/// What is wrong with each slot of a target, in the order of the slots.
+pub fn bad_entries<'a>(entries: &'a [u8], group: &'a Snapshot) -> impl Iterator<Item = Why> + 'a {
+    let entries = entries.iter().take(SLOTS).enumerate();
+    entries.filter_map(|(slot, &entry)| {
         let reason = of_entry(slot, entry, group)?;
         let slot = Some(slot as u16);
         Some(Why { reason, slot })
     })
 }
 
-fn of_entry(slot: usize, entry: u8, group: &Snapshot) -> Option<Reason> {
+/// "an entry not 255 whose place is above 31 or empty, or whose slot doesn't exist, or whose member
+/// doesn't subscribe"; "also when an existing slot has no owner while some member subscribes to its
+/// topic".
+pub fn of_entry(slot: usize, entry: u8, group: &Snapshot) -> Option<Reason> {
+    let (topic, partition) = ((slot / PARTITIONS) as u8, slot % PARTITIONS);
+    let count = group.topic_at(topic.into()).map_or(0, |topic| topic.count);
+    let exists = partition < usize::from(count);
     if entry == NO_PLACE {
-        return None;
+        let mut members = group.members.iter();
+        let is_left_over = exists && members.any(|(_, member)| member.subscribes_to(topic));
+        return is_left_over.then_some(Reason::LeftOver);
     }
     if entry >= PLACES {
         return Some(Reason::PlaceAbove);
@@ -337,9 +348,7 @@ fn of_entry(slot: usize, entry: u8, group: &Snapshot) -> Option<Reason> {
     let Some(member) = group.member_at(entry) else {
         return Some(Reason::PlaceEmpty);
     };
-    let (topic, partition) = ((slot / PARTITIONS) as u8, slot % PARTITIONS);
-    let count = group.topic_at(topic.into()).map_or(0, |topic| topic.count);
-    if partition >= usize::from(count) {
+    if !exists {
         return Some(Reason::SlotMissing);
     }
     (!member.subscribes_to(topic)).then_some(Reason::NotSubscribed)

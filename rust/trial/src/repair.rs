@@ -1,13 +1,17 @@
 //! Repairing a run from which events were cut. Cutting a join shifts every epoch after it; so an
 //! event that named its member's epoch, the group's epoch, a member's place or the exact room
-//! before is changed to do so again. A run that begins near the end of the epochs may begin nearer.
+//! before is changed to do so again, and a slot that had a right owner, or rightly none, has so again.
+//! A run that begins near the end of the epochs may begin nearer.
 
 use std::ops::Range;
 
 use crate::coordinator::Coordinator;
-use crate::data::{Beat, Event, Id, Member, Run, Start, Turn, NO_PLACE, PLACES, ROOMY, SLOTS};
+use crate::data::{
+    Beat, Event, Id, Member, Run, Start, Turn, NO_PLACE, PARTITIONS, PLACES, ROOMY, SLOTS,
+};
 use crate::panics::caught;
-use crate::reasons::need;
+use crate::reasons::{bad_entries, need, of_entry};
+use crate::snapshot::Snapshot;
 
 /// What an event stood in relation to when it was made.
 struct Relation {
@@ -15,6 +19,8 @@ struct Relation {
     epoch: Option<i64>,
     /// Who was at each place.
     names: Vec<Option<Id>>,
+    /// The slots of an install that were bad.
+    bad: Vec<u16>,
     /// Whether its member held all that it listed.
     listed_held: bool,
     /// To the exact room.
@@ -76,6 +82,7 @@ fn relation<C: Coordinator>(turn: &Turn, then: &C) -> Relation {
     let mut relation = Relation {
         epoch: None,
         names: Vec::new(),
+        bad: Vec::new(),
         listed_held: false,
         ahead: tick(&turn.event).map_or(0, |tick| tick.wrapping_sub(then.last_tick())),
         room: exact.map(|(bytes, slots)| {
@@ -93,9 +100,12 @@ fn relation<C: Coordinator>(turn: &Turn, then: &C) -> Relation {
                 relation.listed_held = list.all(|&slot| member.holds(slot));
             }
         }
-        Event::Install { epoch, .. } => {
+        Event::Install { epoch, entries } => {
             relation.epoch = Some(i64::from(*epoch) - i64::from(then.epoch()));
             relation.names = names(then);
+            let group = Snapshot::of(then);
+            let bad = bad_entries(entries, &group).filter_map(|why| why.slot);
+            relation.bad = bad.collect();
         }
         _ => {}
     }
@@ -118,7 +128,8 @@ fn repair<C: Coordinator>(turn: &Turn, relation: &Relation, now: &C) -> Turn {
         Event::Install { epoch, entries } => {
             let offset = relation.epoch.unwrap_or(0);
             *epoch = (i64::from(now.epoch()) + offset) as i32;
-            repair_entries(entries, &relation.names, &names(now));
+            repair_places(entries, &relation.names, &names(now));
+            repair_owners(entries, &relation.bad, &Snapshot::of(now));
         }
         _ => {}
     }
@@ -166,12 +177,29 @@ fn names<C: Coordinator>(group: &C) -> Vec<Option<Id>> {
 }
 
 /// Each slot goes to the member who was at its place then, wherever it is now.
-fn repair_entries(entries: &mut [u8], then: &[Option<Id>], now: &[Option<Id>]) {
+fn repair_places(entries: &mut [u8], then: &[Option<Id>], now: &[Option<Id>]) {
     for entry in entries {
         if let Some(name @ Some(_)) = then.get(usize::from(*entry)) {
             let place = now.iter().position(|other| other == name);
             *entry = place.map_or(NO_PLACE, |place| place as u8);
         }
+    }
+}
+
+/// A slot that was not bad then and is now goes to its first subscriber, or to nobody if it may.
+fn repair_owners(entries: &mut [u8], bad: &[u16], now: &Snapshot) {
+    for (slot, entry) in entries.iter_mut().take(SLOTS).enumerate() {
+        if bad.contains(&(slot as u16)) || of_entry(slot, *entry, now).is_none() {
+            continue;
+        }
+        let topic = (slot / PARTITIONS) as u8;
+        let mut members = now.members.iter();
+        let subscriber = members.find(|(_, member)| member.subscribes_to(topic));
+        let may_be_left = of_entry(slot, NO_PLACE, now).is_none();
+        *entry = match subscriber {
+            Some((place, _)) if !may_be_left => *place,
+            _ => NO_PLACE,
+        };
     }
 }
 

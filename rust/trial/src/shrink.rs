@@ -120,8 +120,14 @@ impl Search {
         self.failing::<S, R>(repaired)
     }
 
-    /// Makes single events plainer: all the room, nothing given that needn't be, shorter lists.
+    /// Makes all topics smaller, and then single events plainer: all the room, nothing given that
+    /// needn't be, shorter lists.
     fn simplify<S: Coordinator, R: Coordinator>(&mut self, mut run: Run) -> Run {
+        let smaller = [1, 2, 4, 8, 32].map(|most| with_partitions(&run, most));
+        let mut smaller = smaller.into_iter();
+        if let Some(smaller) = smaller.find_map(|smaller| self.failing::<S, R>(smaller)) {
+            run = smaller;
+        }
         let mut at = 0;
         while at < run.turns.len() {
             for change in changes(&run.turns[at].event) {
@@ -160,14 +166,7 @@ fn changes(event: &Event) -> Vec<Change> {
             change_beat(|beat| beat.owned = beat.owned.take().map(|_| Vec::new())),
             change_beat(|beat| beat.owned = None),
         ]),
-        Event::Install { .. } => {
-            changes.extend((0..PLACES).map(|place| keep_entries(move |_, entry| entry != place)));
-            // By their partition, so that every topic keeps its first ones.
-            changes.extend(
-                [32, 8, 4, 2, 1]
-                    .map(|length: usize| keep_entries(move |slot, _| slot % PARTITIONS < length)),
-            );
-        }
+        Event::Install { .. } => changes.extend((0..PLACES).map(hand_over)),
         _ => {}
     }
     changes
@@ -181,16 +180,38 @@ fn change_beat(change: impl Fn(&mut Beat) + 'static) -> Change {
     })
 }
 
-fn keep_entries(keep: impl Fn(usize, u8) -> bool + 'static) -> Change {
+/// What an install gives to the place goes to whoever has its first slot, so that none is left over.
+fn hand_over(place: u8) -> Change {
     Box::new(move |turn| {
         if let Event::Install { entries, .. } = &mut turn.event {
-            for (slot, entry) in entries.iter_mut().enumerate() {
-                if !keep(slot, *entry) {
-                    *entry = NO_PLACE;
-                }
+            let first = entries.iter().copied().find(|&entry| entry != NO_PLACE);
+            for entry in entries.iter_mut().filter(|entry| **entry == place) {
+                *entry = first.unwrap_or(NO_PLACE);
             }
         }
     })
+}
+
+/// The same run with no more partitions than these in any topic.
+fn with_partitions(run: &Run, most: usize) -> Run {
+    let is_within = |slot: usize| slot % PARTITIONS < most;
+    let mut smaller = run.clone();
+    for turn in &mut smaller.turns {
+        match &mut turn.event {
+            Event::Topic { count, .. } => *count = (*count).min(most as u32),
+            Event::Install { entries, .. } => {
+                let beyond = entries.iter_mut().enumerate();
+                for (_, entry) in beyond.filter(|(slot, _)| !is_within(*slot)) {
+                    *entry = NO_PLACE;
+                }
+            }
+            Event::Heartbeat(Beat {
+                owned: Some(owned), ..
+            }) => owned.retain(|&slot| is_within(slot.into())),
+            _ => {}
+        }
+    }
+    smaller
 }
 
 /// The same run with members' IDs AA*, AB* and so on, in the order of their first heartbeats.

@@ -2,7 +2,7 @@
 //! snapshot is used again and again, so that taking it after every event stays cheap.
 
 use crate::coordinator::Coordinator;
-use crate::data::{Id, Member, Topic, SLOTS};
+use crate::data::{Id, Member, Topic, PARTITIONS, SLOTS, TOPICS};
 use crate::slots::SlotSet;
 
 /// No place, apart from every place that a coordinator might name.
@@ -70,6 +70,28 @@ impl Snapshot {
         topics
             .find(|(at, _)| u32::from(*at) == number)
             .map(|(_, topic)| *topic)
+    }
+
+    /// The slots that exist and to whose topic some member subscribes, rising: those of which an
+    /// install must leave none over.
+    pub fn wanted(&self) -> impl Iterator<Item = u16> + '_ {
+        let members = self.members.iter();
+        let topics = members.fold(0, |all, (_, member)| all | member.subscription);
+        let is_wanted = move |number: u8| number < TOPICS && topics >> number & 1 == 1;
+        let wanted = self
+            .topics
+            .iter()
+            .filter(move |(number, _)| is_wanted(*number));
+        wanted.flat_map(|(number, topic)| {
+            let first = u16::from(*number) * PARTITIONS as u16;
+            first..first + u16::from(topic.count)
+        })
+    }
+
+    /// Those of them that the target gives to nobody, rising.
+    pub fn holes(&self) -> Vec<u16> {
+        let is_hole = |slot: &u16| self.targets[usize::from(*slot)] == NO_TARGET;
+        self.wanted().filter(is_hole).collect()
     }
 
     /// "After each event no slot is held twice."

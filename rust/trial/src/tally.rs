@@ -104,11 +104,10 @@ impl Tally {
 
     pub fn count(&mut self, turn: &Turn, step: &Step) {
         self.events += 1;
-        if let Some(reason) = step.earned.due {
-            self.count_refusal(reason, turn, step);
-            return;
+        match step.earned.due {
+            Some(reason) => self.count_refusal(reason, turn, step),
+            None => self.accepted[kind(turn, step) as usize] += 1,
         }
-        self.accepted[kind(turn, step) as usize] += 1;
         for &situation in Situation::ALL {
             self.situations[situation as usize] += u64::from(is_reached(situation, turn, step));
         }

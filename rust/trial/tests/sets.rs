@@ -1,9 +1,7 @@
 //! Sets of every size and of many shapes, and every free place: what is counted by ones and found by
 //! trailing zeros, at the ends of words and between them. Random events meet few of these.
 
-use trial::data::{
-    Answer, Beat, Event, Id, Start, Turn, NO_PLACE, PARTITIONS, PLACES, SLOTS, TOPICS,
-};
+use trial::data::{Answer, Beat, Event, Id, Start, Turn, PARTITIONS, PLACES, SLOTS, TOPICS};
 use trial::sides::{Proved, Reference};
 use trial::trial::Trial;
 use trial::Coordinator;
@@ -71,16 +69,18 @@ fn refused(number: u16) -> Answer {
     Answer::Refused { number, slot: None }
 }
 
-/// The one member joins again, has this target and takes it: with a byte of records too few, with an
-/// entry of the list too few, and with just what is needed.
+/// The first of two members joins again, has this target and takes it: with a byte of records too few,
+/// with an entry of the list too few, and with just what is needed. The other has all the rest for its
+/// target.
 fn take(sides: &mut Sides, set: &[u16]) {
     step(sides, &join(1));
-    let mut entries = vec![NO_PLACE; SLOTS];
+    let mut entries = vec![1; SLOTS];
     for &slot in set {
         entries[usize::from(slot)] = 0;
     }
     let epoch = sides.subject.epoch();
-    step(sides, &Turn::roomy(Event::Install { epoch, entries }));
+    let installed = step(sides, &Turn::roomy(Event::Install { epoch, entries }));
+    assert_eq!(installed, Answer::Done);
 
     let beat = beat(1, epoch);
     let (mut records, mut list) = ([0; 4_096], [0; SLOTS]);
@@ -111,7 +111,7 @@ fn take(sides: &mut Sides, set: &[u16]) {
 }
 
 fn take_each(sets: impl Iterator<Item = Vec<u16>>) {
-    let mut sides = group_of(1);
+    let mut sides = group_of(2);
     for set in sets {
         take(&mut sides, &set);
     }

@@ -8,6 +8,7 @@ use trial::journal::compare::{explore, Plan};
 use trial::journal::{Reading, Reads, Verdict};
 use trial::reader::{read, Record};
 use trial::sides::Reference;
+use trial::snapshot::Snapshot;
 
 const PLAN: Plan = Plan {
     seed: 3,
@@ -230,6 +231,16 @@ judged! {
         !is(batch, |records| matches!(records, [Record::TargetEpoch(_)]))
             && read_batch(group, tick, batch)
     };
+    an_install_that_leaves_slots_refused: NoneLeft = |group, tick, batch| {
+        judged_after(group, tick, batch, |after| Snapshot::of(after).holes().is_empty())
+    };
+    an_install_that_leaves_all_slots_refused: NotAllLeft = |group, tick, batch| {
+        judged_after(group, tick, batch, |after| {
+            let after = Snapshot::of(after);
+            let wanted = after.wanted().count();
+            wanted == 0 || after.holes().len() < wanted
+        })
+    };
     a_freed_slot_back_at_once_refused: NotBack = |group, tick, batch| {
         !is(batch, |records| match records {
             [Record::Assignment { place, assigned, .. }] => group
@@ -245,6 +256,24 @@ judged! {
         }
         is_good
     };
+}
+
+/// As plain does, but an install must leave a group of which this holds.
+fn judged_after(
+    group: &mut Group,
+    tick: u32,
+    batch: &[u8],
+    holds: impl Fn(&Group) -> bool,
+) -> bool {
+    let mut after = group.clone();
+    let is_install = is(batch, |records| {
+        matches!(records, [.., Record::TargetEpoch(_)])
+    });
+    let is_good = read_batch(&mut after, tick, batch) && (!is_install || holds(&after));
+    if is_good {
+        *group = after;
+    }
+    is_good
 }
 
 fn is(batch: &[u8], what: impl Fn(&[Record]) -> bool) -> bool {

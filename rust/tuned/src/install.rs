@@ -1,5 +1,5 @@
 //! "Install: an epoch and a list of 1,024 entries, a place or 255 for none. It replaces the target,
-//! and T becomes G."
+//! and T becomes G." Slots may be left with none only where nobody subscribes to them.
 
 use plain::{Answer, Refusal, Reply, NO_PLACE, NO_SLOT, PARTITIONS, PLACES, SLOTS, TOPICS};
 
@@ -53,23 +53,25 @@ impl Group {
     }
 
     /// The target of each place. 1006 again: "an entry not 255 whose place is above 31 or empty, or
-    /// whose slot doesn't exist, or whose member doesn't subscribe (first such slot reported)".
+    /// whose slot doesn't exist, or whose member doesn't subscribe"; "also when an existing slot has
+    /// no owner while some member subscribes to its topic. The first bad slot of either sort is
+    /// reported."
     fn targets(&self, entries: &[u8]) -> Result<[Words; PLACES], Refusal> {
         let subscriptions = self.subscriptions();
+        let wanted = subscriptions.iter().fold(0, |all, one| all | one);
         let mut targets = [[0; TOPICS]; PLACES];
         for (topic, of_topic) in entries.chunks_exact(PARTITIONS).enumerate() {
             let count = self.topics[topic].map_or(0, |topic| usize::from(topic.count));
+            let must_be_owned = if wanted >> topic & 1 == 1 { count } else { 0 };
             for (partition, &entry) in of_topic.iter().enumerate() {
-                if entry == NO_PLACE {
-                    continue;
-                }
                 let place = usize::from(entry);
                 let takes = |place: usize| subscriptions[place] >> topic & 1 == 1;
-                if partition >= count || place >= PLACES || !takes(place) {
+                if partition < count && place < PLACES && takes(place) {
+                    targets[place][topic] |= 1 << partition;
+                } else if entry != NO_PLACE || partition < must_be_owned {
                     let slot = (topic * PARTITIONS + partition) as u16;
                     return Err(Refusal::BadTarget { slot });
                 }
-                targets[place][topic] |= 1 << partition;
             }
         }
         Ok(targets)

@@ -1,5 +1,6 @@
-//! A consumer-group coordinator in Rust, written from document 01 for speed: the second baseline
-//! for the proved coordinator, beside `plain`, which is written to be read.
+//! A consumer-group coordinator in Rust, written from documents 01 and 02 for speed: the second
+//! baseline for the proved coordinator, beside `plain`, which is written to be read. It reads no
+//! journals.
 //!
 //! A member is found in a hash map by its ID, with the standard hasher. Its A, P and target are sets
 //! of sixteen words, and so are the slots that anybody holds. Nothing is allocated but where the map
@@ -7,7 +8,7 @@
 //! returns before anything is built.
 //!
 //! Every event is decided first, as in `plain`, and what goes in and comes out are `plain`'s types.
-//! Comments in quotation marks are 01's sentences, shortened.
+//! Comments in quotation marks are 01's and 02's sentences, shortened.
 #![forbid(unsafe_code)]
 
 mod group;

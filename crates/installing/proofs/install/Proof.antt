@@ -38,7 +38,7 @@ pending : (c : tie.Else3) (h : Holding) → let g = viewTargetParts h (had (c .b
 unfolding viewTargetParts viewWith
 pending c h = ne-eqb _ _ (c .if3 .left)
 
-bad-is : (c : tie.After-first-bad) (h : Holding) → c .first-bad .result ≡ firstBad (viewTargetParts h (had (c .before .before .before .before .before .before .before .before .before .before .before .before))) (c .before .before .before .before .before .before .before .before .before .before .before .before .args .entries .now)
+bad-is : (c : tie.After-first-bad) (h : Holding) → c .first-bad .result ≡ firstBad (c .before .before .before .before .before .before .before .before .before .before .before .before .args .rule) (viewTargetParts h (had (c .before .before .before .before .before .before .before .before .before .before .before .before))) (c .before .before .before .before .before .before .before .before .before .before .before .before .args .entries .now)
 unfolding viewTargetParts viewWith
 bad-is c h = c .first-bad .ensures (viewTargetParts h (had (c .before .before .before .before .before .before .before .before .before .before .before .before))) (h .ids) refl refl
 
@@ -51,7 +51,7 @@ returns c =
       same-refused e (had s),
       λ h.
           let g = viewTargetParts h (had s) in
-          took-refused e g (a .records .now) l ∙ sym (install-short g (a .epoch) (a .entries .now) (a .records .now) l (ne-eqb _ _ (c .before .if1 .taken))),
+          took-refused e g (a .records .now) l ∙ sym (install-short g (a .rule) (a .epoch) (a .entries .now) (a .records .now) l (ne-eqb _ _ (c .before .if1 .taken))),
     )
 
 element-copy-out-current : tie.Need-element-copy-out-current
@@ -67,7 +67,7 @@ returns-2 c =
       λ h.
           let g = viewTargetParts h (had s) in
           took-refused e g (a .records .now) l
-          ∙ sym (install-stale g (a .epoch) (a .entries .now) (a .records .now) l (whole (c .before .before .before .before)) (sym (told (c .before .before) h) ∙ not-is-true _ (c .before .if2 .taken))),
+          ∙ sym (install-stale g (a .rule) (a .epoch) (a .entries .now) (a .records .now) l (whole (c .before .before .before .before)) (sym (told (c .before .before) h) ∙ not-is-true _ (c .before .if2 .taken))),
     )
 
 element-copy-out-if3 : tie.Need-element-copy-out-if3
@@ -84,7 +84,7 @@ returns-3 c =
       λ h.
           let g = viewTargetParts h (had s) in
           took-refused e g (a .records .now) l
-          ∙ sym (install-already g (a .epoch) (a .entries .now) (a .records .now) l (whole (c .before .before .before .before .before .before)) (current (c .before .before .before) h) (eq-eqb _ _ (c .before .if3 .taken))),
+          ∙ sym (install-already g (a .rule) (a .epoch) (a .entries .now) (a .records .now) l (whole (c .before .before .before .before .before .before)) (current (c .before .before .before) h) (eq-eqb _ _ (c .before .if3 .taken))),
     )
 
 returns-4 : tie.Need-returns-4
@@ -97,7 +97,7 @@ returns-4 c =
       λ h.
           let g = viewTargetParts h (had s) in
           took-refused e g (a .records .now) l
-          ∙ sym (install-bad g (a .epoch) (a .entries .now) (a .records .now) l (whole (c .before .before .before .before .before .before .before .before)) (current (c .before .before .before .before .before) h) (pending (c .before .before .before) h) (bad-is (c .before .before) h) (c .before .if4 .taken)),
+          ∙ sym (install-bad g (a .rule) (a .epoch) (a .entries .now) (a .records .now) l (whole (c .before .before .before .before .before .before .before .before)) (current (c .before .before .before .before .before) h) (pending (c .before .before .before) h) (bad-is (c .before .before) h) (c .before .if4 .taken)),
     )
 
 install-at-requires : tie.Need-install-at-requires
@@ -113,7 +113,7 @@ returns-5 c =
       λ h.
           let g = viewTargetParts h (had s) in
           e l .1 h
-          ∙ sym (install-step g (a .epoch) (a .entries .now) (a .records .now) l (whole (c .before .before .before .before .before .before .before .before .before .before .before .before .before)) (current (c .before .before .before .before .before .before .before .before .before .before) h) (pending (c .before .before .before .before .before .before .before .before) h) (bad-is (c .before .before .before .before .before .before .before) h) (c .before .before .before .before .before .before .if4 .left)),
+          ∙ sym (install-step g (a .rule) (a .epoch) (a .entries .now) (a .records .now) l (whole (c .before .before .before .before .before .before .before .before .before .before .before .before .before)) (current (c .before .before .before .before .before .before .before .before .before .before) h) (pending (c .before .before .before .before .before .before .before .before) h) (bad-is (c .before .before .before .before .before .before .before) h) (c .before .before .before .before .before .before .if4 .left)),
     )
 
 pub install-spec : {M : Type 1} → statement M

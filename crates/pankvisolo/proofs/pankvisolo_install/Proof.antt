@@ -73,7 +73,7 @@ module _ {M : Type 1} (𝓤 : URA M) (H : Heap 𝓤) (A : Atoms 𝓤) (W : Given
       Lasts = Fins κs (others (f.signature .params)) (f.ended .kept .1) (a .1);
       Last = lastsOf κs (others (f.signature .params)) (f.ended .kept .1) (a .1);
       reply = P.the-row;
-      Told = λ r group′ z. ((l : List ℕ) → Serves (E.install epoch (entries .now)) (group .now) group′ r (records .now) (z .1 .1 .0) l l);
+      Told = λ r group′ z. ((l : List ℕ) → Serves (E.install E.withRule epoch (entries .now)) (group .now) group′ r (records .now) (z .1 .1 .0) l l);
     }
 
     -- a reference to each part, for the lifetime α, and then the other parameters

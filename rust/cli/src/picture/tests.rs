@@ -76,26 +76,26 @@ free    t0:0-2
 }
 
 /// Ten members, w0 to w9, at epochs 1 to 10.
-fn ten_members() -> String {
-    let joins = (0..10).map(|place| format!("join w{place} timeout 300 topics 0\n"));
+fn ten_members(topics: &str) -> String {
+    let joins = (0..10).map(|place| format!("join w{place} timeout 300 topics {topics}\n"));
     joins.collect()
 }
 
 #[test]
 fn of_many_rows_those_that_changed() {
-    let lines = format!("topic 0 id 11 count 64\n{}", ten_members());
-    let more = "install epoch 10 0-62 to p3\nbeat w3 epoch 4\nleave w9";
+    let lines = |topics| format!("topic 0 id 11 count 64\n{}", ten_members(topics));
+    let more = "install epoch 10 0-62 to p3 63 to p9\nbeat w3 epoch 4\nleave w9";
     let expected = "group   epoch 11, target epoch 10
 free    t0:63
   place  member  epoch  holds    gives back  awaits
 * p3     w3      10     t0:0-62  -           -
 * p9     w9      gone   -        -           -
   and 8 as before";
-    assert_eq!(picture(&lines, more), expected);
+    assert_eq!(picture(&lines("0"), more), expected);
     let expected = "group   epoch 10, target epoch 10
 free    t0:0-63
   and 10 as before";
-    assert_eq!(picture(&lines, "install epoch 10"), expected);
+    assert_eq!(picture(&lines("none"), "install epoch 10"), expected);
 }
 
 #[test]
@@ -115,7 +115,7 @@ free    t0:0-63 t1:0-63 t2:0-63 t3:0-63 t4:0-63 t5:0-63
 #[test]
 fn all_rows_without_marks() {
     let mut group = Group::new(0);
-    run(&mut group, &ten_members());
+    run(&mut group, &ten_members("0"));
     let lines = Picture::of(&group).all_lines(Style::for_output(false));
     assert_eq!(lines.len(), 2 + 1 + 10);
     assert_eq!(lines[0], "group   epoch 10, target epoch 0");

@@ -2,15 +2,15 @@ use super::*;
 use crate::coordinator::Answer;
 use crate::line::{read, Step};
 
-/// Two members, AA (topic 0) at p0 with slots 0 to 2, BB (topic 1) at p1; topic 0 has 3 partitions,
-/// topic 1 has one.
+/// Two members, AA (topic 0) at p0 with slots 0 to 2, BB (topic 1) at p1, which awaits slot 64; topic
+/// 0 has 3 partitions, topic 1 has one.
 const GROUP: [&str; 7] = [
     "fresh tick 1000",
     "topic 0 id 11 count 3",
     "topic 1 id 22 count 1",
     "join AA tick 1000 timeout 300 topics 0",
     "join BB tick 1000 timeout 300 topics 1",
-    "install epoch 2 0-2 to p0",
+    "install epoch 2 0-2 to p0 t1:0 to p1",
     "beat AA epoch 1",
 ];
 
@@ -134,29 +134,164 @@ fn installs() {
     refused("install epoch 2 length 1023", length);
 }
 
+/// The group, with 2 partitions of topic 1, so that a target may follow, and after these lines.
+fn untargeted(more: &[&str]) -> Group {
+    let raised = ["topic 1 id 22 count 2"];
+    group_after(&[&GROUP, &raised[..], more].concat())
+}
+
+/// Why the target is refused for the group's current epoch; None: it is accepted.
+fn install(group: &Group, target: &str) -> Option<String> {
+    let line = format!("install epoch {} {target}", group.epoch());
+    let refused = run(&mut group.clone(), &line)?;
+    let reason = refused.strip_prefix("1006 BAD_TARGET: ");
+    Some(reason.expect(&refused).into())
+}
+
+fn is_refused(group: &Group, target: &str, reason: &str) {
+    assert_eq!(install(group, target).as_deref(), Some(reason), "{target}");
+}
+
+/// Each with one entry that is bad.
 #[test]
 fn targets() {
-    let mut lines = GROUP.to_vec();
-    lines.push("topic 1 id 22 count 2");
-    let group = group_after(&lines);
+    let group = untargeted(&[]);
     for (target, reason) in [
         (
-            "5 to p32",
-            "slot 5 (t0:5) cannot go to p32: the last place is p31",
-        ),
-        ("0 to p2", "slot 0 (t0:0) cannot go to p2: p2 is empty"),
-        (
-            "3 to p0",
-            "slot 3 (t0:3) cannot go to p0: it does not exist",
+            "0-1 to p0 2 to p32 64-65 to p1",
+            "slot 2 (t0:2) cannot go to p32: the last place is p31",
         ),
         (
-            "0 to p0 t1:1 to p0",
-            "slot 65 (t1:1) cannot go to p0: AA does not subscribe to topic 1",
+            "0-1 to p0 2 to p254 64-65 to p1",
+            "slot 2 (t0:2) cannot go to p254: the last place is p31",
+        ),
+        (
+            "0-1 to p0 2 to p31 64-65 to p1",
+            "slot 2 (t0:2) cannot go to p31: p31 is empty",
+        ),
+        (
+            "0-2 to p0 3 to p0 64-65 to p1",
+            "slot 3 (t0:3) cannot go to p0: the slot does not exist",
+        ),
+        (
+            "0-2 to p0 64-65 to p1 1023 to p1",
+            "slot 1023 (t15:63) cannot go to p1: the slot does not exist",
+        ),
+        (
+            "0-2 to p0 64 to p1 65 to p0",
+            "slot 65 (t1:1) cannot go to p0: AA does not subscribe to t1",
         ),
     ] {
-        let line = format!("install epoch 3 {target}");
-        let reason = format!("1006 BAD_TARGET: {reason}");
-        assert_eq!(run(&mut group.clone(), &line), Some(reason));
+        is_refused(&group, target, reason);
+    }
+    assert_eq!(install(&group, "0-2 to p0 64-65 to p1"), None);
+}
+
+#[test]
+fn slots_left_over() {
+    let group = untargeted(&[]);
+    for (target, slot) in [
+        ("1-2 to p0 64-65 to p1", "slot 0 (t0:0)"),
+        ("0,2 to p0 64-65 to p1", "slot 1 (t0:1)"),
+        ("0-1 to p0 64-65 to p1", "slot 2 (t0:2)"),
+        ("64-65 to p1", "slot 0 (t0:0)"),
+    ] {
+        let who = "p0 (AA) subscribes to t0, and the target gives it to nobody";
+        is_refused(&group, target, &format!("{slot} is left over: {who}"));
+    }
+    is_refused(
+        &group,
+        "0-2 to p0 64 to p1",
+        "slot 65 (t1:1) is left over: p1 (BB) subscribes to t1, and the target gives it to nobody",
+    );
+}
+
+/// The first of the subscribers, and how many more there are.
+#[test]
+fn who_could_have_a_slot_left_over() {
+    let one_more = "join worker-1 timeout 300 topics 0-2";
+    let group = untargeted(&[one_more]);
+    is_refused(
+        &group,
+        "0-1 to p0 64-65 to p1",
+        "slot 2 (t0:2) is left over: p0 (AA) and 1 more subscribe to t0, and the target gives it to nobody",
+    );
+    let group = untargeted(&[one_more, "join CC timeout 300 topics 0", "leave AA"]);
+    is_refused(
+        &group,
+        "0-1 to p2 64-65 to p1",
+        "slot 2 (t0:2) is left over: p2 (worker-1) and 1 more subscribe to t0, and the target gives it to nobody",
+    );
+    let group = untargeted(&[one_more, "join CC timeout 300 topics 0"]);
+    is_refused(
+        &group,
+        "0-1 to p0 64-65 to p1",
+        "slot 2 (t0:2) is left over: p0 (AA) and 2 more subscribe to t0, and the target gives it to nobody",
+    );
+}
+
+/// "but for a slot nobody subscribes to"; and one past the count does not exist.
+#[test]
+fn slots_that_may_have_no_owner() {
+    let group = untargeted(&["topic 2 id 33 count 64", "leave BB"]);
+    assert_eq!(install(&group, "0-2 to p0"), None);
+    is_refused(
+        &group,
+        "0-2 to p0 64 to p0",
+        "slot 64 (t1:0) cannot go to p0: AA does not subscribe to t1",
+    );
+}
+
+#[test]
+fn of_two_bad_slots_the_first_is_named() {
+    let group = untargeted(&[]);
+    let left_over =
+        "slot 0 (t0:0) is left over: p0 (AA) subscribes to t0, and the target gives it to nobody";
+    is_refused(&group, "1 to p0 2 to p2 64-65 to p1", left_over);
+    is_refused(&group, "1-3 to p0 64-65 to p1", left_over);
+    is_refused(
+        &group,
+        "0 to p2 1 to p0 64-65 to p1",
+        "slot 0 (t0:0) cannot go to p2: p2 is empty",
+    );
+    is_refused(
+        &group,
+        "0-2 to p0 3 to p0 64 to p1",
+        "slot 3 (t0:3) cannot go to p0: the slot does not exist",
+    );
+}
+
+/// "whose place is above 31 or empty, or whose slot doesn't exist, or whose member doesn't subscribe".
+#[test]
+fn of_two_reasons_for_a_slot_the_first_of_01_is_named() {
+    let group = untargeted(&[]);
+    for (entry, reason) in [
+        (
+            "3 to p32",
+            "slot 3 (t0:3) cannot go to p32: the last place is p31",
+        ),
+        ("3 to p2", "slot 3 (t0:3) cannot go to p2: p2 is empty"),
+        (
+            "3 to p1",
+            "slot 3 (t0:3) cannot go to p1: the slot does not exist",
+        ),
+    ] {
+        is_refused(&group, &format!("0-2 to p0 {entry} 64-65 to p1"), reason);
+    }
+}
+
+/// With a slot that nothing is wrong with, and one that no list has.
+#[test]
+fn a_target_of_which_nothing_is_known() {
+    let group = untargeted(&["leave BB"]);
+    let mut entries = vec![NO_PLACE; SLOTS.into()];
+    entries[..3].fill(0);
+    let epoch = group.epoch();
+    let event = Event::Install { epoch, entries };
+    for slot in [0, 3, 64, 1024, 65535] {
+        let refusal = Refusal::BadTarget { slot };
+        let reason = why(refusal, &event, Lent::ENOUGH, &group);
+        assert_eq!(reason, "the list is not a target for this group", "{slot}");
     }
 }
 

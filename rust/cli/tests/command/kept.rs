@@ -41,6 +41,28 @@ fn a_second_run_goes_on_where_the_first_ended() {
     assert_eq!(fs::read(folder.file("group.journal")).unwrap(), both);
 }
 
+/// "Journals are read without this rule": the target of this one leaves slot 2 over.
+#[test]
+fn a_journal_with_a_slot_left_over_is_gone_on_with() {
+    let folder = Folder::new("left-over");
+    let before = [journal_after(2), morning::bytes("07 07 00 02 00 01 06 01")].concat();
+    let path = folder.with("group.journal", &before);
+    let read = run(&["read", &path]);
+    let printed = String::from_utf8_lossy(&read.stdout);
+    assert!(
+        printed.ends_with("\nwhole   it ends at offset 62\n"),
+        "{printed}"
+    );
+    assert_eq!(read.status.code(), Some(0));
+
+    let mut command = command(&["--journal", "group.journal", &script("left_over.txt")]);
+    let output = command.current_dir(folder.path()).output().unwrap();
+    is_output(&output, 0, include_str!("../golden/left_over.txt"), "");
+    let more = "07 08 00 01 02 00 01 00 1D 05 01 01 BB* AC 02 01 03 02 08 01 02 00 00 06 07 01 01 02 06 02";
+    let both = [before, morning::bytes(more)].concat();
+    assert_eq!(fs::read(&path).unwrap(), both);
+}
+
 /// A name is no line of a script, whatever is in it.
 #[test]
 fn names_with_odd_characters() {

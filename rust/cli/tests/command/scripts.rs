@@ -60,7 +60,8 @@ fn every_refusal_with_its_number_and_name() {
         "1007 BAD_TOPIC: the count falls from 3 to 2",
         "1003 ROOM: the records take 29 bytes, and 28 were lent",
         "1003 ROOM: the answer has 3 slots, and 2 entries were lent",
-        "1006 BAD_TARGET: slot 4 (t0:4) cannot go to p0: it does not exist",
+        "1006 BAD_TARGET: slot 4 (t0:4) cannot go to p0: the slot does not exist",
+        "1006 BAD_TARGET: slot 3 (t0:3) is left over: p0 (AA) subscribes to t0, and the target gives it to nobody",
         "81 GROUP_MAX_SIZE_REACHED: all 32 places are taken",
     ];
     assert_eq!(refused, expected);

@@ -6,6 +6,9 @@
 //! before anything is stored again. [`Store`] keeps to that over a file; a host that stores
 //! elsewhere has [`frame`], [`read`] and [`Reader`].
 //!
+//! A journal is read without the rule that a target leaves no slot over (see [`Group::install`]): a
+//! file that a broker from before that rule wrote is read and gone on with.
+//!
 //! ```
 //! use pankvisolo::journal::{self, Verdict};
 //! use pankvisolo::Group;
@@ -89,7 +92,7 @@ pub enum Verdict<'a> {
         tail: &'a [u8],
     },
     /// Another heading, a length that no batch has, or a batch that no event would write for the
-    /// group so far.
+    /// group so far. An install that leaves slots over counts as one that would.
     Refused {
         /// 0, or where the length stands.
         offset: usize,

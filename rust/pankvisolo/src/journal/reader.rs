@@ -5,7 +5,8 @@ use crate::ffi;
 use crate::group::Group;
 
 /// Reads a journal in parts, for a host that has not the whole file in memory. After any parts it
-/// stands where [`read`](super::read) would stand with the bytes of all of them.
+/// stands where [`read`](super::read) would stand with the bytes of all of them. A target
+/// that leaves slots over is read too.
 ///
 /// ```
 /// use pankvisolo::journal::{Reader, Verdict};

@@ -64,7 +64,8 @@ struct Lent {
 }
 
 impl Store {
-    /// Opens the journal, makes it where there is none, and reads it at a tick.
+    /// Opens the journal, makes it where there is none, and reads it at a tick. It is read without the
+    /// rule that a target leaves no slot over, to which each [`install`](Store::install) is held.
     ///
     /// # Errors
     ///
@@ -134,7 +135,8 @@ impl Store {
         self.serve(|lent| lent.group.topic(number, id, count, &mut lent.records))
     }
 
-    /// Sets who is to have each slot: an entry for each of the 1,024, a place or 255 for nobody.
+    /// Sets who is to have each slot: an entry for each of the 1,024, a place or 255 for nobody. Which
+    /// lists are refused stands at [`Group::install`].
     pub fn install(&mut self, epoch: i32, entries: &[u8]) -> io::Result<Answer> {
         self.serve(|lent| lent.group.install(epoch, entries, &mut lent.records))
     }

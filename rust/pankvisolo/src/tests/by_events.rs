@@ -23,6 +23,7 @@ fn member_id(place: u8) -> Id {
     id(100 + place)
 }
 
+/// How many a topic has before topic 0 is raised.
 fn partitions(topic: u8) -> u8 {
     20 + topic
 }
@@ -41,11 +42,12 @@ fn tick(hour: u32, place: u8) -> u32 {
     hour * 1_000 + u32::from(place)
 }
 
-/// The entries of an install, by topic and partition.
-fn entries(place: impl Fn(u8, u8) -> u8) -> Vec<u8> {
+/// The entries of an install, by topic and partition, once topic 0 was raised so many times.
+fn entries(raises: u8, place: impl Fn(u8, u8) -> u8) -> Vec<u8> {
     let of_slot = |slot: u16| {
         let (topic, partition) = ((slot / 64) as u8, (slot % 64) as u8);
-        if partition < partitions(topic) {
+        let raised = if topic == 0 { raises } else { 0 };
+        if partition < partitions(topic) + raised {
             place(topic, partition)
         } else {
             NOBODY
@@ -54,12 +56,18 @@ fn entries(place: impl Fn(u8, u8) -> u8) -> Vec<u8> {
     (0..1_024).map(of_slot).collect()
 }
 
-/// Even partitions stay at the place of the topic's number, odd ones go sixteen places on.
+/// A target for the group after all events: every slot to the place of its topic's number.
+pub fn target() -> Vec<u8> {
+    entries(2, |topic, _| topic)
+}
+
+/// Even partitions stay at the place of the topic's number, odd ones go sixteen places on; where that
+/// place is free, to another that subscribes to the topic.
 fn parted(topic: u8, partition: u8) -> u8 {
     match partition % 2 {
         0 => topic,
         _ if topic + TOPICS < MEMBERS => topic + TOPICS,
-        _ => NOBODY,
+        _ => MEMBERS - 2,
     }
 }
 
@@ -120,10 +128,10 @@ pub fn events() -> Group {
     };
     (0..TOPICS).for_each(|topic| host.topic(topic, partitions(topic)));
     (0..MEMBERS).for_each(|place| host.join(place));
-    host.install(31, &entries(|topic, _| topic));
+    host.install(31, &entries(0, |topic, _| topic));
     (0..TOPICS).for_each(|place| host.heartbeat(place, i32::from(place) + 1, 2));
     host.topic(0, partitions(0) + 1);
-    host.install(32, &entries(parted));
+    host.install(32, &entries(1, parted));
     (0..TOPICS).for_each(|place| host.heartbeat(place, 31, 3));
     (0..TOPICS).for_each(|place| host.heartbeat(place, 31, 4));
     host.topic(0, partitions(0) + 2);
@@ -171,9 +179,9 @@ fn check_members(group: &ffi::Group) {
 }
 
 fn check_slots(group: &ffi::Group) {
-    assert_eq!(group.target[..], entries(parted));
-    assert_eq!(group.holder[..], entries(|topic, _| topic));
-    let waiting = entries(|_, partition| partition % 2);
+    assert_eq!(group.target[..], entries(1, parted));
+    assert_eq!(group.holder[..], entries(0, |topic, _| topic));
+    let waiting = entries(0, |_, partition| partition % 2);
     let waiting: Vec<bool> = waiting.iter().map(|&odd| odd == 1).collect();
     assert_eq!(group.waiting[..], waiting);
 }

@@ -12,7 +12,7 @@ const MEMBER: [u8; 16] = *b"0123456789abcdef";
 const TICK: u32 = 0x0102_0304;
 const EPOCH: u32 = 0x0506_0708;
 const TIMEOUT: u32 = 0x0009_0A0B;
-/// Topics 0 to 4 among others, which have the slots of the target.
+/// Topics 0 to 4, which have the slots of the target, and two that there are not.
 const SUBSCRIPTION: u16 = 0x0C1F;
 const SLOTS: u16 = 0x010D;
 const NO_SLOT: u16 = 65_535;
@@ -22,8 +22,10 @@ fn group() -> Group {
     let mut group = ffi::fresh(TICK);
     group.epoch = EPOCH;
     group.target_epoch = EPOCH;
-    group.topic_ids = array::from_fn(|number| [number as u8 + 1; 16]);
-    group.topic_counts = [64; 16];
+    for (number, count) in [64, 64, 64, 64, 13].into_iter().enumerate() {
+        group.topic_ids[number] = [number as u8 + 1; 16];
+        group.topic_counts[number] = count;
+    }
     for (column, word) in group.member_ids.iter_mut().zip(ids::words(MEMBER)) {
         column[0] = word;
     }
@@ -153,7 +155,7 @@ fn every_field_of_a_reply_is_where_it_is_declared() {
     let swept = ffi::sweep(&mut group(), TICK + 45_000, &mut [0; 4_096]);
     assert_eq!(fields(&swept), (0, 0, 0, 1, NO_SLOT, 14));
 
-    let mut entries = [ffi::NO_PLACE; ffi::SLOTS];
+    let mut entries = group().target;
     entries[usize::from(SLOTS)] = 1;
     let refused = install(group_without_target(), EPOCH, &entries);
     assert_eq!(fields(&refused), (1006, 0, 0, 0, SLOTS, 0));

@@ -7,4 +7,5 @@ mod c_compiler;
 mod c_host;
 mod calls;
 mod header;
+mod left_over;
 mod refusals;

@@ -1,7 +1,7 @@
 //! A refused event leaves the group as it was, field by field: every refusal of 01's table, of every
 //! function that gives it.
 
-use super::by_events::events;
+use super::by_events::{events, target};
 use crate::ffi::{self, Group, Id, Reply, Request};
 use crate::ids;
 
@@ -128,11 +128,13 @@ fn of_an_install() {
     };
     let epoch = group.epoch as i32;
     let of = |epoch, entries| move |group: &mut Group| ffi::install(group, epoch, entries, &mut []);
+    let target = target();
     refuses(&group, 1006, of(epoch, &[]));
     refuses(&group, 1004, of(epoch - 1, &[255; 1_024]));
     refuses(&with_target, 1005, of(epoch, &[255; 1_024]));
     refuses(&group, 1006, of(epoch, &[31; 1_024]));
-    refuses(&group, 1003, of(epoch, &[255; 1_024]));
+    refuses(&group, 1006, of(epoch, &[255; 1_024]));
+    refuses(&group, 1003, of(epoch, &target));
 }
 
 /// A batch that no event would write for this group, and one that is cut.

@@ -9,6 +9,7 @@ mod host;
 
 mod child;
 mod folder;
+mod left_over;
 mod morning;
 mod opening;
 mod refusals;

@@ -81,8 +81,8 @@ impl Group {
         self.is_installed(targets)
     }
 
-    /// Whether an install has these targets, changed ones and others: no slot is in two, and each is
-    /// one that 1006 has nothing against.
+    /// Whether an install has these targets, changed ones and others: no slot is in two, and 01's 1006
+    /// has nothing against any. Slots may be left over: "Journals are read without this rule."
     fn is_installed(&self, targets: [&BTreeSet<Slot>; PLACES]) -> bool {
         let mut seen = [false; SLOTS];
         for (target, name) in targets.into_iter().zip(&self.places) {

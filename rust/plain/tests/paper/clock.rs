@@ -50,8 +50,8 @@ fn the_rebalance_timeout_runs_across_the_run_over() {
     host.heartbeat(join(AA, start));
     host.install(1, &entries(&[(0, 0)]));
     host.heartbeat(ordinary(AA, 1, start, None));
-    host.topic(0, [0x11; 16], 2);
-    host.install(2, &entries(&[]));
+    host.heartbeat(join(BB, start));
+    host.install(2, &entries(&[(0, 1)]));
     host.heartbeat(ordinary(AA, 1, start, None));
     assert_eq!(host.member(0).revoking, [0]);
     assert_eq!(host.sweep(198).answer, Answer::Swept(0));
@@ -97,7 +97,7 @@ fn accepted_heartbeats_set_both_ticks_and_sweeps_the_groups() {
 fn topics_and_installs_set_no_tick() {
     let mut host = after_p4();
     host.topic(0, [0x11; 16], 4);
-    assert_eq!(host.install(2, &entries(&[])).answer, Answer::Done);
+    assert_eq!(host.install(2, &runs(&[(0..4, 0)])).answer, Answer::Done);
     assert_eq!(
         (host.group.last_tick(), host.member(0).heard),
         (1_000, 1_000)

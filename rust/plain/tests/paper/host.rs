@@ -1,6 +1,8 @@
 //! A host at which events are tried: it lends buffers with known bytes in them and checks, after
 //! every event, that what must be left alone was; at a refusal that is everything.
 
+use std::ops::Range;
+
 use crate::coordinator::{Answer, Group, Heartbeat, Id, Member, Refusal, Reply, Topic};
 
 /// "No event needs more than 4,096 bytes."
@@ -152,11 +154,30 @@ pub fn ordinary(id: Id, epoch: i32, tick: u32, owned: Option<&[u16]>) -> Heartbe
 
 /// Install entries: each slot with its place, all others none.
 pub fn entries(places: &[(usize, u8)]) -> Vec<u8> {
-    let mut entries = vec![NONE; ALL_SLOTS];
-    for &(slot, place) in places {
+    with(&[NONE; ALL_SLOTS], places)
+}
+
+/// The same by runs of slots, each to one place.
+pub fn runs(places: &[(Range<usize>, u8)]) -> Vec<u8> {
+    let mut entries = entries(&[]);
+    for (slots, place) in places {
+        entries[slots.clone()].fill(*place);
+    }
+    entries
+}
+
+/// The same target with some entries changed.
+pub fn with(target: &[u8], changes: &[(usize, u8)]) -> Vec<u8> {
+    let mut entries = target.to_vec();
+    for &(slot, place) in changes {
         entries[slot] = place;
     }
     entries
+}
+
+/// 1006 with a slot.
+pub fn bad_target(slot: u16) -> Answer {
+    refused(Refusal::BadTarget { slot })
 }
 
 pub fn assigned(epoch: i32, count: usize) -> Answer {

@@ -112,19 +112,20 @@ fn of_a_topic() {
 
 #[test]
 fn of_an_install() {
-    let mut host = after_p4();
-    host.lend(0, 0);
-    let bad = entries(&[(5, 0)]);
-    let length = Refusal::BadTarget { slot: 65_535 };
-    assert_eq!(host.install(0, &bad[..1_023]).answer, refused(length));
-    assert_eq!(host.install(0, &bad).answer, refused(Refusal::Stale));
-    assert_eq!(host.install(1, &bad).answer, refused(Refusal::Already));
-    host.lend(ROOMY, 0).topic(0, [0x11; 16], 4);
-    host.lend(0, 0);
-    let slot = Refusal::BadTarget { slot: 5 };
-    assert_eq!(host.install(2, &bad).answer, refused(slot));
-    assert_eq!(
-        host.install(2, &entries(&[])).answer,
-        refused(Refusal::Room)
-    );
+    // One slot is not there, one is left over.
+    let target = runs(&[(0..4, 0)]);
+    for (bad, slot) in [
+        (with(&target, &[(5, 0)]), 5),
+        (with(&target, &[(1, NONE)]), 1),
+    ] {
+        let mut host = after_p4();
+        host.lend(0, 0);
+        assert_eq!(host.install(0, &bad[..1_023]).answer, bad_target(65_535));
+        assert_eq!(host.install(0, &bad).answer, refused(Refusal::Stale));
+        assert_eq!(host.install(1, &bad).answer, refused(Refusal::Already));
+        host.lend(ROOMY, 0).topic(0, [0x11; 16], 4);
+        host.lend(0, 0);
+        assert_eq!(host.install(2, &bad).answer, bad_target(slot));
+        assert_eq!(host.install(2, &target).answer, refused(Refusal::Room));
+    }
 }

@@ -99,7 +99,7 @@ fn p_is_freed_and_the_epoch_follows() {
 fn freed_and_back_in_a_in_one_heartbeat() {
     let mut host = after_p8();
     host.topic(0, [0x11; 16], 4);
-    host.install(3, &entries(&[(0, 0), (1, 0), (2, 0)]));
+    host.install(3, &entries(&[(0, 0), (1, 0), (2, 0), (3, 1)]));
     let given = host.heartbeat(ordinary(AA, 1, 2_000, Some(&[0, 1])));
     assert_eq!((given.answer, given.slots), (assigned(3, 3), vec![0, 1, 2]));
     assert_eq!(given.bytes, hex("08 00 03 03 00 01 01 00"));
@@ -109,7 +109,7 @@ fn freed_and_back_in_a_in_one_heartbeat() {
 fn freed_and_moved_anew_in_one_heartbeat() {
     let mut host = after_p8();
     host.topic(0, [0x11; 16], 4);
-    host.install(3, &entries(&[(0, 0), (2, 1)]));
+    host.install(3, &entries(&[(0, 0), (1, 1), (2, 1), (3, 0)]));
     let given = host.heartbeat(ordinary(AA, 1, 2_200, Some(&[0, 1])));
     assert_eq!((given.answer, given.slots), (assigned(1, 1), vec![0]));
     assert_eq!(given.bytes, hex("08 00 01 01 00 01 01"));
@@ -124,7 +124,7 @@ fn the_epoch_rises_although_a_slot_of_m_is_held_elsewhere() {
     host.heartbeat(join(BB, 1_000));
     host.install(2, &entries(&[(0, 1), (1, 1), (2, 1)]));
     host.topic(0, [0x11; 16], 4);
-    host.install(3, &entries(&[(0, 1), (3, 1)]));
+    host.install(3, &runs(&[(0..4, 1)]));
     let given = host.heartbeat(ordinary(BB, 2, 1_000, None));
     assert_eq!((given.answer, given.slots), (assigned(3, 1), vec![3]));
     assert_eq!(given.bytes, hex("08 01 03 01 03 00"));
@@ -147,8 +147,7 @@ fn large_sets_take_two_byte_numbers() {
     let mut request = join(AA, 0);
     request.subscription = Some(0x8001);
     host.heartbeat(request);
-    let all: Vec<(usize, u8)> = (0..64).chain(960..1_024).map(|slot| (slot, 0)).collect();
-    let given = host.install(1, &entries(&all));
+    let given = host.install(1, &runs(&[(0..64, 0), (960..1_024, 0)]));
     let mut set = hex("80 01 00");
     set.extend([1; 63]);
     set.extend(hex("81 07"));

@@ -95,6 +95,69 @@ fn an_install_is_refused_for_what_stays_in_it() {
     story.refuses("07 00 00 07 01 02 02 3E 06 03");
 }
 
+/// "Journals are read without this rule": request 3 refuses each of these installs.
+#[test]
+fn installs_with_slots_left_over() {
+    // Topic 0 has four partitions, all of them wanted.
+    let story = not_installed();
+    let epoch = story.host.group.epoch();
+    let refused = |places: &[(usize, u8)], slot| {
+        let given = not_installed().host.install(epoch, &entries(places));
+        assert_eq!(given.answer, bad_target(slot));
+    };
+    for (batch, places, slot) in [
+        ("06 03", &[(0, 0), (1, 0), (2, 1)][..], 3),
+        ("07 00 01 01 06 03", &[(1, 0), (2, 1)], 0),
+        ("07 00 01 00 07 01 01 03 06 03", &[(0, 0), (3, 1)], 1),
+        (
+            "07 00 03 00 01 02 07 01 00 06 03",
+            &[(0, 0), (1, 0), (3, 0)],
+            2,
+        ),
+        ("07 00 00 07 01 00 06 03", &[], 0),
+    ] {
+        refused(places, slot);
+        let group = story.reads(batch);
+        assert_eq!(group.target_epoch(), epoch, "{batch}");
+        for slot in 0..4 {
+            let place = places.iter().find(|(owned, _)| *owned == slot);
+            let target = group.target_of(slot as u16);
+            assert_eq!(target, place.map(|(_, place)| *place), "{batch}");
+        }
+    }
+    // What 01 has against an install still is against it.
+    story.refuses("07 01 01 04 06 03");
+    story.refuses("07 02 01 03 06 03");
+}
+
+#[test]
+fn reading_goes_on_after_slots_left_over() {
+    let mut story = not_installed();
+    story.finds("07 00 01 00 07 01 00 06 03");
+    // AA* frees its P and gives 1 back; slots 1 to 3 are nobody's.
+    story
+        .finds("08 00 01 01 00 01 01")
+        .finds("08 00 03 01 00 00");
+    let bb = story.host.heartbeat(ordinary(BB, 2, READ_AT, Some(&[])));
+    assert_eq!(
+        (bb.answer, bb.bytes),
+        (assigned(3, 0), hex("08 01 03 00 00"))
+    );
+    story.finds("08 01 03 00 00");
+    story.finds("04 00 11* 05 03 04").finds("06 04");
+    story
+        .finds("08 00 00 07 00 00 05 00 00 03 05")
+        .finds("06 05");
+    let reading = journal::read(&story.file, READ_AT);
+    assert_eq!((reading.end, picture(&reading.group)), *story.last());
+    // The rule is back with the next install.
+    let mut host = Host::with(reading.group);
+    host.heartbeat(join(AA, READ_AT));
+    assert_eq!(host.install(6, &entries(&[])).answer, bad_target(0));
+    let given = host.install(6, &runs(&[(0..5, 1)]));
+    assert_eq!(given.bytes, hex("07 01 05 00 01 01 01 01 06 06"));
+}
+
 #[test]
 fn leaves_and_sweeps() {
     let story = Story::of_p8();
@@ -175,7 +238,7 @@ fn rejoins() {
     story.play(|host| host.heartbeat(join(id(7), 2_000)));
     story.play(|host| host.heartbeat(join(id(7), 2_000)));
     assert_eq!(story.host.group.epoch(), 4);
-    story.play(|host| host.install(4, &entries(&[])));
+    story.play(|host| host.install(4, &runs(&[(0..3, 1)])));
     story.refuses("07 00 00 05 00 01 AA* 01 01 03 05 08 00 05 00 00");
     story.reads("05 00 01 AA* 01 01 03 05 08 00 05 00 00");
 }
@@ -236,11 +299,11 @@ fn ordinary_heartbeats_with_p_waiting() {
     story.refuses("08 00 02 03 00 01 01 00");
     // The target gives 2 back to AA*, and takes 0: freed and back, freed and moved anew.
     let mut story = not_installed();
-    story.play(|host| host.install(3, &entries(&[(0, 0), (1, 0), (2, 0)])));
+    story.play(|host| host.install(3, &entries(&[(0, 0), (1, 0), (2, 0), (3, 1)])));
     story.reads("08 00 03 03 00 01 01 00");
     story.refuses("08 00 03 02 00 01 00");
     let mut story = not_installed();
-    story.play(|host| host.install(3, &entries(&[(1, 0), (2, 0)])));
+    story.play(|host| host.install(3, &entries(&[(0, 1), (1, 0), (2, 0), (3, 1)])));
     story.reads("08 00 01 01 01 01 00");
     story.refuses("08 00 01 01 01 02 00 02");
     story.refuses("08 00 01 02 01 01 01 00");

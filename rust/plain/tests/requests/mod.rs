@@ -8,3 +8,4 @@ mod story;
 
 mod batches;
 mod files;
+mod left_over;

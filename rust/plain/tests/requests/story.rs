@@ -81,6 +81,15 @@ impl Story {
         reading.group
     }
 
+    /// A batch is read, and the story goes on with the group after it, at the tick of reading.
+    pub fn finds(&mut self, batch: &str) -> &mut Story {
+        self.host.group = self.reads(batch);
+        self.file.extend(framed(&hex(batch)));
+        let after = picture(&self.host.group);
+        self.ends.push((self.file.len(), after));
+        self
+    }
+
     /// A batch after those of the file is refused; the group is the one before it.
     pub fn refuses(&self, batch: &str) {
         let file = [&self.file[..], &framed(&hex(batch))].concat();

@@ -1,4 +1,4 @@
-//! Installs: good targets of several sorts, and each way to spoil one.
+//! Installs: good targets of several sorts, which leave no slot over, and each way to spoil one.
 
 use super::World;
 use crate::coordinator::Coordinator;
@@ -19,9 +19,8 @@ enum Strategy {
     Sticky,
     Random,
     OneTakesAll,
-    /// Half of the slots to nobody.
-    Sparse,
-    Nothing,
+    /// To half of the subscribers, by turns.
+    Half,
 }
 
 const STRATEGIES: [Strategy; 8] = [
@@ -30,9 +29,9 @@ const STRATEGIES: [Strategy; 8] = [
     Strategy::Sticky,
     Strategy::Sticky,
     Strategy::Random,
+    Strategy::Random,
     Strategy::OneTakesAll,
-    Strategy::Sparse,
-    Strategy::Nothing,
+    Strategy::Half,
 ];
 
 impl View {
@@ -57,6 +56,12 @@ impl View {
     fn slots(&self, topic: u8) -> std::ops::Range<usize> {
         let first = usize::from(topic) * PARTITIONS;
         first..first + self.counts[usize::from(topic)]
+    }
+
+    /// The slots to whose topic somebody subscribes.
+    fn wanted(&self) -> Vec<usize> {
+        let topics = (0..TOPICS).filter(|&topic| !self.subscribers(topic).is_empty());
+        topics.flat_map(|topic| self.slots(topic)).collect()
     }
 }
 
@@ -87,12 +92,27 @@ impl World {
                     }
                     Strategy::Random => self.random.pick(&places),
                     Strategy::OneTakesAll => places[favourite % places.len()],
-                    Strategy::Sparse if self.random.chance(1, 2) => self.random.pick(&places),
-                    Strategy::Sparse | Strategy::Nothing => NO_PLACE,
+                    Strategy::Half => {
+                        let half = places.len().div_ceil(2);
+                        places[(favourite + slot % half) % places.len()]
+                    }
                 };
             }
         }
+        if self.leaves_slots {
+            self.leave_some(&mut entries);
+        }
         entries
+    }
+
+    /// None, some or all of the slots go to nobody, as was allowed before request 3.
+    fn leave_some(&mut self, entries: &mut [u8]) {
+        let share = self.random.pick(&[0, 0, 1, 2, 4]);
+        for entry in entries {
+            if self.random.chance(share, 4) {
+                *entry = NO_PLACE;
+            }
+        }
     }
 
     pub(super) fn bad_install<C: Coordinator>(&mut self, group: &C) -> Event {
@@ -101,7 +121,7 @@ impl World {
         let mut epoch = group.epoch();
         // At times two faults at once.
         for _ in 0..self.random.between(1, 2) {
-            match self.random.below(8) {
+            match self.random.below(12) {
                 0 => entries.resize(
                     self.random
                         .pick(&[0, 1, 1_023, 1_025, 2_048, 65_536 + 1_024]),
@@ -110,7 +130,9 @@ impl World {
                 1 => epoch = self.other_epoch(group),
                 2 | 3 => self.spoil_place(&view, &mut entries),
                 4 | 5 => self.spoil_slot(&view, &mut entries),
-                _ => self.spoil_subscription(&view, &mut entries),
+                6 | 7 => self.spoil_subscription(&view, &mut entries),
+                8 => entries = target_again(group),
+                _ => self.forget(&view, &mut entries),
             }
         }
         Event::Install { epoch, entries }
@@ -159,10 +181,35 @@ impl World {
         }
     }
 
+    /// A slot that somebody subscribes to gets no owner, often the first or the last, or a whole topic
+    /// is forgotten.
+    fn forget(&mut self, view: &View, entries: &mut [u8]) {
+        let wanted = view.wanted();
+        let (Some(&first), Some(&last)) = (wanted.first(), wanted.last()) else {
+            return;
+        };
+        let any = wanted[self.random.below(wanted.len())];
+        let topic = (any / PARTITIONS) as u8;
+        match self.random.below(6) {
+            0 => self.put(entries, first, NO_PLACE),
+            1 | 2 => self.put(entries, last, NO_PLACE),
+            3 => view
+                .slots(topic)
+                .for_each(|slot| self.put(entries, slot, NO_PLACE)),
+            _ => self.put(entries, any, NO_PLACE),
+        }
+    }
+
     /// The list may have been cut short by another fault.
     fn put(&mut self, entries: &mut [u8], slot: usize, place: u8) {
         if let Some(entry) = entries.get_mut(slot) {
             *entry = place;
         }
     }
+}
+
+/// The target as it stands, whatever has come in between.
+fn target_again<C: Coordinator>(group: &C) -> Vec<u8> {
+    let entry = |slot| group.target_of(slot).unwrap_or(NO_PLACE);
+    (0..SLOTS as u16).map(entry).collect()
 }

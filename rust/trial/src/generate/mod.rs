@@ -24,6 +24,8 @@ pub struct World {
     profile: &'static Profile,
     clients: Vec<Client>,
     topic_ids: Vec<Id>,
+    /// Whether the assignor leaves slots over.
+    leaves_slots: bool,
     /// The client whose heartbeat was made last, if its answer will reach it.
     awaits_answer: Option<usize>,
     /// Answers to honest heartbeats that got lost so far.
@@ -43,8 +45,17 @@ impl World {
             profile,
             clients,
             topic_ids,
+            leaves_slots: false,
             awaits_answer: None,
             lost_answers: 0,
+        }
+    }
+
+    /// The same world before request 3, when an assignor could leave slots over.
+    pub fn before_request_3(self) -> World {
+        World {
+            leaves_slots: true,
+            ..self
         }
     }
 

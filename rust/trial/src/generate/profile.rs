@@ -146,18 +146,18 @@ pub static PROFILES: [Profile; 11] = [
         topics: 16,
         partitions: 64,
         events: (150, 300),
-        weights: [50, 4, 3, 16, 2, 14, 3],
+        weights: [50, 4, 3, 16, 2, 14, 8],
         ..CALM
     },
 ];
 
 const FEW: Profile = Profile {
     name: "few",
-    clients: (1, 3),
+    clients: (2, 3),
     topics: 2,
     partitions: 2,
     events: (30, 90),
-    weights: [60, 6, 4, 8, 1, 20, 1],
+    weights: [60, 6, 4, 8, 1, 30, 1],
     leaves_per_100: 4,
     ..CALM
 };

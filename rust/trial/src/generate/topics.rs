@@ -9,7 +9,10 @@ impl World {
         let index = self.random.below(self.topic_ids.len());
         let most = self.profile.partitions;
         let count = match group.topic_at(index as u8) {
-            None => self.random.between(1, most),
+            None => {
+                let any = self.random.between(1, most);
+                self.random.pick(&[any, most])
+            }
             Some(known) => {
                 let count = usize::from(known.count);
                 let more = self.random.between(count, most.max(count));

@@ -5,15 +5,17 @@ use std::fmt;
 
 use super::forge::Forge;
 use super::judge::Judge;
+use super::older::some_world;
 use super::records::write;
 use super::refused::{cause_of_batch, Cause};
 use super::spoil::spoiled;
 use crate::coordinator::Coordinator;
 use crate::data::PLACES;
-use crate::generate::{Profile, World, SMALL_PROFILES};
+use crate::generate::{Profile, SMALL_PROFILES};
 use crate::lent::Lent;
 use crate::random::Random;
 use crate::sides::Reference;
+use crate::snapshot::Snapshot;
 
 #[derive(Clone, Copy, Debug)]
 pub struct Plan {
@@ -34,6 +36,8 @@ pub struct Tally {
     pub full: u64,
     pub at_end: u64,
     pub judged: u64,
+    /// Good ones of installs that leave slots over.
+    pub leaving_slots: u64,
     /// By the kind of event that writes such records.
     good: [u64; Cause::ALL.len()],
     refused: [u64; Cause::ALL.len()],
@@ -71,7 +75,7 @@ fn one_run(
     read_batch: ReadBatch,
     tally: &mut Tally,
 ) -> Result<(), String> {
-    let mut world = World::new(profile, Random::new(random.next()));
+    let (mut world, serve) = some_world(profile, Random::new(random.next()));
     let mut group = Reference::start(world.start());
     let mut lent = Lent::default();
     let mut recent: Vec<Vec<u8>> = Vec::new();
@@ -86,7 +90,7 @@ fn one_run(
         }
         let turn = world.next(&group);
         lent.fill(&turn);
-        let reply = group.serve(&turn.event, &mut lent.records, &mut lent.list);
+        let reply = serve(&mut group, &turn.event, &mut lent.records, &mut lent.list);
         world.learn(&turn, reply, &lent.list[..reply.answer.told()]);
         if reply.written > 0 {
             recent.push(lent.records[..reply.written].to_vec());
@@ -136,10 +140,14 @@ fn judge_one(judge: &Judge, batch: &[u8], tally: &mut Tally) -> Result<(), Strin
         ));
     }
     tally.judged += 1;
-    let kind = cause_of_batch(batch) as usize;
+    let kind = cause_of_batch(batch);
     match by_form {
-        Some(_) => tally.good[kind] += 1,
-        None => tally.refused[kind] += 1,
+        Some(after) => {
+            tally.good[kind as usize] += 1;
+            let leaves = kind == Cause::Install && !Snapshot::of(&after).holes().is_empty();
+            tally.leaving_slots += u64::from(leaves);
+        }
+        None => tally.refused[kind as usize] += 1,
     }
     Ok(())
 }
@@ -161,6 +169,10 @@ impl Tally {
         for (count, what) in [
             (self.full, "a full group"),
             (self.at_end, "G's largest value"),
+            (
+                self.leaving_slots,
+                "good: an install that leaves slots over",
+            ),
         ] {
             if count == 0 {
                 never.push(what.into());
@@ -173,10 +185,14 @@ impl Tally {
 impl fmt::Display for Tally {
     fn fmt(&self, f: &mut fmt::Formatter) -> fmt::Result {
         let (judged, groups) = (self.judged, self.groups);
-        let (full, at_end) = (self.full, self.at_end);
+        let (full, at_end, leaving) = (self.full, self.at_end, self.leaving_slots);
         writeln!(f, "{judged:>10}  batches judged on {groups} groups")?;
         writeln!(f, "{full:>10}  groups had 32 members")?;
         writeln!(f, "{at_end:>10}  were at G's largest value")?;
+        writeln!(
+            f,
+            "{leaving:>10}  good batches were of installs that leave slots over"
+        )?;
         writeln!(f, "\n      good   refused")?;
         for &kind in &Cause::ALL[Cause::NoRecords as usize..] {
             let (good, refused) = (self.good[kind as usize], self.refused[kind as usize]);

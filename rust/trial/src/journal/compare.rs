@@ -71,7 +71,9 @@ fn one_journal<S: Reads, R: Reads>(
             let name = profile.name;
             Box::new(Report::new(seed, index, name, &file, tick, what))
         })?;
-        tally.count(file.damage, found.0, found.1);
+        tally.count(file.damage, found.0);
+        tally.batches += found.1;
+        tally.leaving_slots += journal.leaving_slots(journal.whole_at(file.sound));
         Ok(())
     };
     if journal.batches.is_empty() || other.batches.is_empty() {

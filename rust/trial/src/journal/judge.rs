@@ -1,6 +1,7 @@
 //! A second judge of batches, slow and for small groups: it tries every event there is, on the plain
 //! coordinator, and a batch is good where one of them writes it. What `plain::journal` has in closed
-//! form must be the same, and leave the same group.
+//! form must be the same, and leave the same group. Installs may leave slots over: "Journals are read
+//! without this rule."
 //!
 //! Every event: of those without an ID that the group has not seen there are few enough to try all.
 //! The others, a new topic, a joiner and another timeout or subscription, are written with their ID
@@ -9,6 +10,7 @@
 use std::collections::HashMap;
 
 use super::agree::ReadBatch;
+use super::older;
 use crate::coordinator::Coordinator;
 use crate::data::{Beat, Event, Id, Member, NO_PLACE, PARTITIONS, PLACES, ROOMY, SLOTS, TOPICS};
 use crate::sides::Reference;
@@ -212,7 +214,7 @@ impl Judge {
 fn served(group: &Reference, event: &Event) -> Option<(Vec<u8>, Reference)> {
     let mut records = [0; ROOMY];
     let mut after = group.clone();
-    let reply = after.serve(event, &mut records, &mut [0; SLOTS]);
+    let reply = older::serve(&mut after, event, &mut records, &mut [0; SLOTS]);
     let stored = !reply.answer.is_refusal() && reply.written > 0;
     stored.then(|| {
         after.set_every_tick(TICK);

@@ -1,5 +1,6 @@
 //! Journals (request 1 of 02): made from random events through the plain coordinator, with the group
 //! after each batch; damaged in every way; and read by two readers, whose readings must be the same.
+//! Some are as brokers wrote them before request 3: `older`.
 //!
 //! Plain's judge of batches is itself held against another, which tries every event: `agree`.
 //!
@@ -11,6 +12,7 @@ pub mod damage;
 pub mod forge;
 pub mod in_parts;
 pub mod judge;
+pub mod older;
 pub mod reads;
 pub mod records;
 pub mod refused;

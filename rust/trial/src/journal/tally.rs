@@ -9,8 +9,9 @@ use super::refused::Cause;
 pub struct Tally {
     pub journals: u64,
     pub files: u64,
-    /// Batches taken on in all files.
+    /// Batches taken on in all files, and those of them that leave slots over.
     pub batches: u64,
+    pub leaving_slots: u64,
     /// Files found whole, torn and refused, by what was done to them.
     whole: [u64; Damage::ALL.len()],
     torn: [u64; Damage::ALL.len()],
@@ -27,9 +28,8 @@ pub enum Found {
 }
 
 impl Tally {
-    pub fn count(&mut self, damage: Damage, found: Found, batches: u64) {
+    pub fn count(&mut self, damage: Damage, found: Found) {
         self.files += 1;
-        self.batches += batches;
         let damage = damage as usize;
         match found {
             Found::Whole => self.whole[damage] += 1,
@@ -59,6 +59,9 @@ impl Tally {
                 never.push(format!("refused: {}", cause.label()));
             }
         }
+        if self.leaving_slots == 0 {
+            never.push("read: an install that leaves slots over".into());
+        }
         // What came to be another good file.
         for damage in [
             Damage::Byte,
@@ -78,9 +81,11 @@ impl Tally {
 
 impl fmt::Display for Tally {
     fn fmt(&self, f: &mut fmt::Formatter) -> fmt::Result {
-        let (files, journals, batches) = (self.files, self.journals, self.batches);
+        let (files, journals) = (self.files, self.journals);
+        let (batches, leaving) = (self.batches, self.leaving_slots);
         writeln!(f, "{files:>10}  files made of {journals} journals")?;
         writeln!(f, "{batches:>10}  batches read in them")?;
+        writeln!(f, "{leaving:>10}  of them installs that leave slots over")?;
         writeln!(f, "\n     whole      torn   refused")?;
         for &damage in Damage::ALL {
             let at = damage as usize;

@@ -1,13 +1,15 @@
 //! A journal as a broker writes it: random events through the plain coordinator, the batch of each
 //! that stored records, and the group after it.
 
+use super::older::some_world;
 use crate::coordinator::Coordinator;
 use crate::data::{Answer, Event, Start};
-use crate::generate::{Profile, World};
+use crate::generate::Profile;
 use crate::journal::Reads;
 use crate::lent::Lent;
 use crate::random::Random;
 use crate::sides::Reference;
+use crate::snapshot::Snapshot;
 
 /// Of a run that hardly stores anything, no more events than this for each batch asked for.
 const EVENTS_PER_BATCH: usize = 50;
@@ -29,6 +31,8 @@ pub struct Batch {
     pub end: usize,
     pub records: Vec<u8>,
     pub after: Reference,
+    /// Whether it is of an install that leaves slots over.
+    pub leaves_slots: bool,
 }
 
 impl Journal {
@@ -43,7 +47,7 @@ impl Journal {
     /// So many batches, or fewer where the events store too little. A file begins with a fresh group,
     /// whatever the profile says.
     pub fn made(profile: &'static Profile, random: Random, batches: usize) -> Journal {
-        let mut world = World::new(profile, random);
+        let (mut world, serve) = some_world(profile, random);
         let (Start::Fresh { tick } | Start::AtEpochs { tick, .. }) = world.start();
         let mut journal = Journal::new(tick);
         let mut group = journal.fresh.clone();
@@ -54,7 +58,7 @@ impl Journal {
             }
             let turn = world.next(&group);
             lent.fill(&turn);
-            let reply = group.serve(&turn.event, &mut lent.records, &mut lent.list);
+            let reply = serve(&mut group, &turn.event, &mut lent.records, &mut lent.list);
             let told = &lent.list[..reply.answer.told()];
             world.learn(&turn, reply, told);
             if !matches!(reply.answer, Answer::Refused { .. }) {
@@ -72,7 +76,9 @@ impl Journal {
         }
         let offset = self.bytes.len();
         self.bytes.extend(framed(records));
+        let is_install = matches!(event, Event::Install { .. });
         self.batches.push(Batch {
+            leaves_slots: is_install && !Snapshot::of(after).holes().is_empty(),
             event,
             offset,
             end: self.bytes.len(),
@@ -100,6 +106,12 @@ impl Journal {
     /// How many batches end at the byte or before it.
     pub fn whole_at(&self, byte: usize) -> usize {
         self.batches.partition_point(|batch| batch.end <= byte)
+    }
+
+    /// How many of the first batches are of installs that leave slots over.
+    pub fn leaving_slots(&self, batches: usize) -> u64 {
+        let first = self.batches[..batches].iter();
+        first.filter(|batch| batch.leaves_slots).count() as u64
     }
 
     /// The length and the records of a batch.

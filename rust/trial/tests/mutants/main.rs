@@ -3,6 +3,7 @@
 //! see it. Altered alike on both, the comparison sees nothing, and one of the other checks must.
 
 mod bytes;
+mod left_over;
 mod mutant;
 mod numbers;
 mod order;

@@ -133,7 +133,8 @@ impl Mutation for HandsOutNothing {
         if reply.answer.is_refusal() {
             return reply;
         }
-        Coordinator::install(&mut mutant.group, epoch, &nothing, buffer)
+        let installed = mutant.group.install_partial(epoch, &nothing, buffer);
+        installed.into()
     }
 }
 

@@ -11,10 +11,10 @@ use Rattle.group.proofs.entries.first_bad_of.Statement.{statement}
 use Rattle.group.proofs.entries.first_bad_of.Tie as tie
 
 abbrev Inv-loop : tie.InvT-loop
-Inv-loop counts subscriptions entries slot₀ slot = (slot ≤ length entries) × (firstWith (entryBad counts subscriptions) slot (drop slot entries) ≡ firstWith (entryBad counts subscriptions) 0 entries)
+Inv-loop counts subscriptions wanted entries slot₀ slot = (slot ≤ length entries) × (firstWith (entryBad counts subscriptions wanted) slot (drop slot entries) ≡ firstWith (entryBad counts subscriptions wanted) 0 entries)
 
 abbrev μ-loop : tie.MeasureT-loop
-μ-loop counts subscriptions entries slot₀ slot = length entries - slot
+μ-loop counts subscriptions wanted entries slot₀ slot = length entries - slot
 
 loop-holds : tie.Need-loop-holds Inv-loop μ-loop
 loop-holds c = (omega arith, refl)

@@ -36,7 +36,7 @@ returns c =
     } in
     let o = c .before .before .before .install in
     let r = c .reply-of in
-    let same-bits = ap (λ (z : ℤ). E.install z (a .entries .now)) (toZ-ofZ (s .fits .epoch)) in
+    let same-bits = ap (λ (z : ℤ). E.install E.withRule z (a .entries .now)) (toZ-ofZ (s .fits .epoch)) in
     λ l. same-event same-bits (serves (o .result) (r .result) (r .ensures) viewTargetParts (withHolding holding) holding (view-holding holding) _ _ _ _ _ l l (o .ensures l))
 
 pub install-spec : {M : Type 1} → statement M
