@@ -8,6 +8,7 @@ pub mod Sweeps
 pub mod Topics
 pub mod Installs
 pub mod LeftOver
+pub mod Ranges
 pub mod Limits
 pub mod Recovering
 pub mod Journals

@@ -20,6 +20,7 @@ use Rattle.rules.specs.Batches.{isTyped, judged, passes, retimed}
 use Rattle.rules.specs.declared.Refusal.{Refusal}
 use Rattle.rules.specs.declared.Refusal.the-variants.{Room}
 use Rattle.theorems.proofs.Cases.{no-some}
+use Rattle.theorems.proofs.Refusing.{last-row}
 use Rattle.theorems.proofs.Accepting.{AllFalse, rows-false}
 use Rattle.theorems.proofs.ReadBack.{overlaid}
 use Rattle.events.specs.declared.Outcome.{Outcome}
@@ -34,12 +35,6 @@ unfolding firstOf
 first-refuses [] r x b e = absurd (no-some r e)
 first-refuses ((y when true) ∷ rows) r x b e = e
 first-refuses ((y when false) ∷ rows) r x b e = first-refuses rows r x b e
-
-first-passes : (rows : List Row) (x : Refusal) (b : Bool) → firstOf rows ≡ none → firstOf (rows ++ (x when b) ∷ []) ≡ (if b then some x else none)
-unfolding firstOf
-first-passes [] x b e = refl
-first-passes ((y when true) ∷ rows) x b e = absurd (no-some y (sym e))
-first-passes ((y when false) ∷ rows) x b e = first-passes rows x b e
 
 -- ---- what was stepped
 
@@ -88,7 +83,7 @@ module _ (t : ℕ) (g : Group) (e : Event) (keeps : AllFalse (table g e) → ret
       → readOf (step g e buf list) batch ≡ (if passes o && same (allBytes (f .records)) batch then some (retimed t (f .group)) else none)
   unfolding step verdict carryOut goodAs
   by-table none p =
-      ap (λ (v : Option Refusal). readOf (carryOut v g f buf list) batch) (first-passes (table g e) Room (tooLittleRoom f buf list) p)
+      ap (λ (v : Option Refusal). readOf (carryOut v g f buf list) batch) (last-row (table g e) Room (tooLittleRoom f buf list) p)
       ∙ room (tooLittleRoom f buf list) refl
       ∙ ap (λ (h : Group). if same (allBytes (f .records)) batch then some h else none) (sym (keeps (rows-false g e p)))
   by-table (some r) p =

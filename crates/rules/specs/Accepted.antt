@@ -197,7 +197,7 @@ NoneLeftOver = (epoch : ℤ) (entries : List ℕ) → AfterAccepted (install wit
 -- 'The first bad slot of either sort is reported'
 pub record FirstOfEither (rule : Bool) (g : Group) (entries : List ℕ) (s : ℕ) : Type 0 where
   pub bad : badEntry rule g s (getD entries s noPlace) ≡ true
-  pub none : (n : ℕ) → n < s → badEntry rule g n (getD entries n noPlace) ≡ false
+  pub before : (n : ℕ) → n < s → badEntry rule g n (getD entries n noPlace) ≡ false
 
 abbrev pub FirstReported : Type 0
 FirstReported =

@@ -17,4 +17,5 @@ pub mod Journal
 pub mod Files
 pub mod Brokers
 pub mod Accepted
+pub mod Assignor
 pub mod Theorems

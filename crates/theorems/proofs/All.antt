@@ -12,6 +12,7 @@ use Rattle.theorems.proofs.LeftOver.{first-reported, none-left-over, re
 use Rattle.theorems.proofs.Sizes.{batch-fits, never-room}
 use Rattle.theorems.proofs.Ids.{member-ids, same-count-accepted, sized, topic-ids}
 use Rattle.theorems.proofs.Inheriting.{nobody-inherits}
+use Rattle.theorems.proofs.Ranging.{range-installed, range-theorems}
 
 pub theorems : Theorems
 theorems = record {
@@ -34,6 +35,7 @@ theorems = record {
   noneLeftOver = none-left-over;
   firstReported = first-reported;
   readWithoutRule = read-without-rule;
+  range = range-theorems;
   epochsOrdered = epochs-ordered;
   sized = sized;
   nobodyInherits = nobody-inherits;
@@ -44,4 +46,5 @@ theorems = record {
   readable = readable;
   batchFits = batch-fits;
   neverRoom = never-room;
+  rangeInstalled = range-installed;
 }

@@ -107,7 +107,7 @@ first-reported g rule epoch entries buffer list s l h =
     let f = first-fails (badEntry rule g) 0 entries noPlace s (omega (arith, long)) (r .1 ∙ sym (zero-add s)) in
     record {
       bad = rw (zero-add s) at (f .0);
-      none = λ n b. rw (zero-add n) at (f .1 n b);
+      before = λ n b. rw (zero-add n) at (f .1 n b);
     }
 
 -- ---- without the rule

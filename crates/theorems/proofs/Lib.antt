@@ -31,4 +31,6 @@ pub mod Readable
 pub mod Sizes
 pub mod Ids
 pub mod Inheriting
+pub mod Sharing
+pub mod Ranging
 pub mod All

@@ -129,6 +129,14 @@ none-fails f n (x ∷ xs) h d i lt = pick (f n x) refl h i lt (none-fails f (suc
     pick false e k zero b ih = rw (add-zero n) e
     pick false e k (suc i) b ih = rw (add-suc n i ∙ sym (suc-add n i)) (ih (omega arith) d i (omega arith))
 
+-- and where none fails, it is
+pub first-none : (f : ℕ → ℕ → Bool) (d n : ℕ) (l : List ℕ) → ((i : ℕ) → i < length l → f (n + i) (getD l i d) ≡ false) → firstWith f n l ≡ n + length l
+unfolding firstWith
+first-none f d n [] h = sym (add-zero n)
+first-none f d n (x ∷ xs) h =
+    rw (sym (ap (λ (k : ℕ). f k x) (add-zero n)) ∙ h 0 (omega arith))
+    (first-none f d (suc n) xs (λ i b. rw (suc-add n i ∙ sym (add-suc n i)) (h (suc i) (omega arith))) ∙ suc-add n (length xs) ∙ sym (add-suc n (length xs)))
+
 first-least : (f : ℕ → ℕ → Bool) (n : ℕ) (l : List ℕ) → n ≤ firstWith f n l
 unfolding firstWith
 first-least f n [] = omega arith
