@@ -21,7 +21,7 @@ use rules::PARTITIONS;
 use rules::TOPICS;
 
 // The subscription at each place, 0 where no member is.
-fn subscriptions_of(members: &[u32; CELLS]) -> [u16; MEMBERS]
+pub fn subscriptions_of(members: &[u32; CELLS]) -> [u16; MEMBERS]
     ensures { λ r. ⌜ r ≡ map subscriptionOf (viewMembers (now (members .entry))) ⌝ }
 {
     let mut all = [0u16; MEMBERS];

@@ -1,0 +1,4 @@
+pub mod Numbering
+pub mod Ordering
+pub mod Listing
+pub mod Assigning
