@@ -12,10 +12,11 @@
  * What lies behind those is left as it was. 4,096 bytes and 1,024 slots are room enough for any event.
  *
  * The functions take every number. What they ask of a caller is C's own: a pointer is good for what it is
- * lent for, and NULL will do where a length is 0; the group, `records` and `list` overlap with nothing; a
+ * lent for, and NULL will do where a length is 0; the group and whatever is written overlap with nothing; a
  * bool is 0 or 1; and one group is used by one at a time. What is proved of a whole run is proved of a group
- * that came from pankvisolo_fresh or from a journal and was changed by these functions alone. An event needs
- * at most PANKVISOLO_STACK bytes of stack, and what a journal needs PANKVISOLO_JOURNAL_STACK.
+ * that came from pankvisolo_fresh or from a journal and was changed by these functions alone. An event and
+ * pankvisolo_range_target need at most PANKVISOLO_STACK bytes of stack, and what a journal needs
+ * PANKVISOLO_JOURNAL_STACK.
  *
  * A journal is a file from which a group is read back: PANKVISOLO_JOURNAL_HEADING, then for each event that wrote
  * records their length, as a number in groups of seven bits, and the records. The host stores the batch of an
@@ -43,8 +44,8 @@ extern "C" {
 #define PANKVISOLO_PLACES 32
 #define PANKVISOLO_SLOTS 1024
 
-/* The bytes of stack that an event needs at most, and a function of the journal; rust/pankvisolo/c/stack.c
-   measures them. */
+/* The bytes of stack that an event or pankvisolo_range_target needs at most, and a function of the journal;
+   rust/pankvisolo/c/stack.c measures them. */
 #define PANKVISOLO_STACK 5120
 #define PANKVISOLO_JOURNAL_STACK 20480
 
@@ -202,6 +203,18 @@ struct pankvisolo_reply pankvisolo_install(
     struct pankvisolo_group *group, int32_t epoch,
     const uint8_t *entries, size_t entries_length,
     uint8_t *records, size_t records_length);
+
+/* The range assignor, for a host that has no assignor of its own: writes a target for the group as it is, all
+   1,024 entries, each a place or PANKVISOLO_NO_PLACE, and changes nothing of the group. Of each topic the members
+   that subscribe to it are taken in rising order of ID bytes; of n partitions over k members the first n mod k get
+   one more than the rest, each a run of neighbours, in that order. A slot that doesn't exist, or to whose topic
+   nobody subscribes, goes to nobody.
+
+   An install of it for the group's epoch is accepted whenever the target's epoch is below the group's and there is
+   room for the records; 4,096 bytes always are. It depends on the topics and on the members' subscriptions and IDs
+   alone, not on who holds what. So a host calls it, and installs what it wrote, after each answer with which the
+   group's epoch rose above the target's, and after a journal is read, where the target's is below. */
+void pankvisolo_range_target(const struct pankvisolo_group *group, uint8_t entries[PANKVISOLO_SLOTS]);
 
 /* Reads a journal. The group, which is written over whatever it was, is the one after the last good batch, and
    every tick in it is the tick of reading. A target in it may leave slots over: a journal is read without that rule

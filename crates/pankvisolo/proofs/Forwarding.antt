@@ -113,10 +113,10 @@ pub record Forward {M : Type 1} (𝓤 : URA M) : Type 2 where
 -- what a run hands back beside tokens: a reply and last values z, of which L says that they are the last, and Told what is ensured
 module _ {M : Type 1} (𝓤 : URA M) (H : Heap 𝓤) (A : Atoms 𝓤) (tokens : SProp 𝓤) (R : RattleType) (Z : Type 0) (L : Z → Fml)
     (Told : R .Denot → Z → Type 0) where
-  abbrev Said : R .Denot → Z → SProp 𝓤
+  abbrev pub Said : R .Denot → Z → SProp 𝓤
   Said r z = sep 𝓤 (sem 𝓤 H A (L z)) (fact 𝓤 (Told r z))
 
-  abbrev Replied : Val → R .Denot → SProp 𝓤
+  abbrev pub Replied : Val → R .Denot → SProp 𝓤
   Replied v r = sep 𝓤 (sep 𝓤 tokens (sem 𝓤 H A (R .own r (v ∷ [])))) (ex 𝓤 (Said r))
 
   abbrev pub Handed : Val → SProp 𝓤

@@ -1,7 +1,8 @@
 // The functions of the static library, for hosts in Rust or C. A group is the host's, and an event changes it where it lies; buffers and lists are lent too; an
 // answer comes as plain numbers. No function asks anything of its caller: the contracts settle every value of every parameter. With a number that is not 0 every
 // byte of the group is as it was.
-// A function that takes a group does nothing but lend its parts, all for one lifetime. Its proof is a walk of its code, which tools/walk.py writes.
+// A function that takes a group does nothing but lend its parts, all for one lifetime. Its proof is a walk of its code, which tools/walk.py writes where the group
+// is a `&mut`.
 ghost use mathlib.Core.Path.{_≡_};
 ghost use mathlib.Core.List.{List};
 ghost use Prim.Native.Nat.{ℕ};
@@ -9,6 +10,7 @@ ghost use Rattle.rules.specs.Group.{fresh};
 ghost use Rattle.rules.specs.Event as E;
 ghost use Rattle.rules.specs.Journal.{heading};
 ghost use Rattle.rules.specs.Brokers.{JournalTheorems};
+ghost use Rattle.rules.specs.Assignor.{rangeTarget};
 ghost use Rattle.numbers.specs.Buffer.{Wrote};
 ghost use Rattle.frames.specs.Forms.{framed, ifRoom};
 ghost use Rattle.group.specs.View.{view};
@@ -26,6 +28,7 @@ mod recovering; // recovering.rt: a journal read into such a group
 use events::Request;
 use group::Group;
 use rules::ID_LENGTH;
+use rules::SLOTS;
 
 // The 16 bytes of a topic's ID.
 #[repr(C)]
@@ -172,6 +175,14 @@ pub extern "C" fn pankvisolo_install(
         entries,
         records,
     )
+}
+
+// Writes the target of the range assignor for the group as it is: for each slot a place, or 255 for none. It changes nothing of the group.
+#[no_mangle]
+pub extern "C" fn pankvisolo_range_target(group: &Group, entries: &mut [u8; SLOTS])
+    ensures { λ r. ⌜ now (entries .exit) ≡ rangeTarget (view (now (group .entry))) ⌝ }
+{
+    assignor::range_target(&group.members, &group.topic_counts, entries)
 }
 
 // Reads a journal at a tick into the group, whatever that held. What holds of every reading is `JournalTheorems`; and brokers that run on this library, one after

@@ -2,10 +2,11 @@
 
 use crate::event::{Beat, Event};
 
-/// The buffers that each call is lent. They are never cleared.
+/// The buffers that each call is lent, and where a range target goes. They are never cleared.
 pub struct Lent {
     pub records: [u8; 4_096],
     pub assignment: [u16; 1_024],
+    pub entries: [u8; 1_024],
 }
 
 impl Lent {
@@ -13,6 +14,7 @@ impl Lent {
         Lent {
             records: [0; 4_096],
             assignment: [0; 1_024],
+            entries: [0; 1_024],
         }
     }
 }
@@ -45,6 +47,8 @@ pub trait Coordinator: Clone {
     fn sweep_at(&mut self, tick: u32, lent: &mut Lent) -> Self::Reply;
     fn make_topic(&mut self, number: u8, count: u32, lent: &mut Lent) -> Self::Reply;
     fn install_target(&mut self, epoch: i32, entries: &[u8], lent: &mut Lent) -> Self::Reply;
+    /// Done, with nothing written.
+    fn make_range_target(&self, lent: &mut Lent) -> Self::Reply;
 
     fn group_epoch(&self) -> i32;
     fn standing(&self, place: u8) -> Option<Standing>;
@@ -59,6 +63,7 @@ pub trait Coordinator: Clone {
             Event::Sweep { tick } => self.sweep_at(*tick, lent),
             Event::Topic { number, count } => self.make_topic(*number, *count, lent),
             Event::Install { epoch, entries } => self.install_target(*epoch, entries, lent),
+            Event::RangeTarget => self.make_range_target(lent),
         }
     }
 }
@@ -102,6 +107,15 @@ macro_rules! coordinate {
                 lent: &mut Lent,
             ) -> Self::Reply {
                 self.install(epoch, entries, &mut lent.records)
+            }
+
+            #[inline]
+            fn make_range_target(&self, lent: &mut Lent) -> Self::Reply {
+                lent.entries = self.range_target();
+                $side::Reply {
+                    answer: $side::Answer::Done,
+                    written: 0,
+                }
             }
 
             fn group_epoch(&self) -> i32 {

@@ -2,9 +2,19 @@
 
 pub enum Event {
     Beat(Beat),
-    Sweep { tick: u32 },
-    Topic { number: u8, count: u32 },
-    Install { epoch: i32, entries: Vec<u8> },
+    Sweep {
+        tick: u32,
+    },
+    Topic {
+        number: u8,
+        count: u32,
+    },
+    Install {
+        epoch: i32,
+        entries: Vec<u8>,
+    },
+    /// No event of the group: it is asked for its range target.
+    RangeTarget,
 }
 
 /// A heartbeat that gives its list of owned slots.

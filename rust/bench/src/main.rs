@@ -22,10 +22,11 @@ const INTRODUCTION: &str = "\
 Timed is one call through the public API, with the making of its request: 4,096 bytes and 1,024
 entries lent and not cleared between calls, 16 topics of 64 partitions, the 1,024 slots shared
 evenly, the members in turn. Where an event changes what the next one would find, each call has a
-copy of the group, made outside the timed part. A round is about 60 ms, in which the three sides
-take turns batch by batch, and counts for each side as the median of its batches; the times are
-medians over the rounds, and the ratios are theirs: to either baseline and to the quicker of the
-two, for which lowest and highest are those of single rounds.";
+copy of the group, made outside the timed part. A range target is that of members whose IDs don't
+rise as their places do. A round is about 60 ms, in which the three sides take turns batch by batch,
+and counts for each side as the median of its batches; the times are medians over the rounds, and
+the ratios are theirs: to either baseline and to the quicker of the two, for which lowest and
+highest are those of single rounds.";
 
 fn main() -> ExitCode {
     let words: Vec<String> = env::args().skip(1).collect();

@@ -96,18 +96,30 @@ fn check<C: Coordinator, D: Coordinator>(one: &Scene<C>, other: &Scene<D>) {
         let (left, right) = (played(&one.group, left), played(&other.group, right));
         let name = one.kind.name();
         assert!(left == right, "{name}: two sides differ");
-        let (outcome, written) = (left.0, left.1.len());
+        let (outcome, written) = (left.outcome, left.records.len());
         let fits = one.kind.is_answered_by(outcome, written);
         assert!(fits, "{name}: {outcome:?} with {written} bytes of records");
     }
 }
 
-/// The answer, the records and the list.
-fn played<C: Coordinator>(group: &C, event: &Event) -> (Outcome, Vec<u8>, [u16; 1_024]) {
+/// What a call gave.
+#[derive(PartialEq, Eq)]
+struct Played {
+    outcome: Outcome,
+    records: Vec<u8>,
+    assignment: [u16; 1_024],
+    entries: [u8; 1_024],
+}
+
+fn played<C: Coordinator>(group: &C, event: &Event) -> Played {
     let mut lent = Lent::new();
     let reply = group.clone().play(event, &mut lent);
-    let records = lent.records[..C::written(reply)].to_vec();
-    (C::outcome(reply), records, lent.assignment)
+    Played {
+        outcome: C::outcome(reply),
+        records: lent.records[..C::written(reply)].to_vec(),
+        assignment: lent.assignment,
+        entries: lent.entries,
+    }
 }
 
 #[cfg(test)]

@@ -35,10 +35,12 @@ pub enum Kind {
     Install,
     InstallRefused,
     Refused,
+    RangeOfAll,
+    RangeOfHalf,
 }
 
 impl Kind {
-    pub const ALL: [Kind; 10] = [
+    pub const ALL: [Kind; 12] = [
         Kind::RejoinEmpty,
         Kind::RejoinHolding,
         Kind::Quiet,
@@ -49,6 +51,8 @@ impl Kind {
         Kind::Install,
         Kind::InstallRefused,
         Kind::Refused,
+        Kind::RangeOfAll,
+        Kind::RangeOfHalf,
     ];
 
     pub fn name(self) -> &'static str {
@@ -63,6 +67,8 @@ impl Kind {
             Kind::Install => "install that changes every target",
             Kind::InstallRefused => "install refused (1006), its last slot left over",
             Kind::Refused => "heartbeat refused (110)",
+            Kind::RangeOfAll => "range target, everyone subscribed to every topic",
+            Kind::RangeOfHalf => "range target, half of the members subscribed to each topic",
         }
     }
 
@@ -74,7 +80,9 @@ impl Kind {
             | Kind::Quiet
             | Kind::SweepNobody
             | Kind::InstallRefused
-            | Kind::Refused => false,
+            | Kind::Refused
+            | Kind::RangeOfAll
+            | Kind::RangeOfHalf => false,
             Kind::RejoinHolding
             | Kind::GivesBack
             | Kind::Takes
@@ -98,6 +106,7 @@ impl Kind {
             (Kind::Install, Outcome::Done) => written > 0,
             (Kind::InstallRefused, Outcome::Refused(number)) => number == BAD_TARGET,
             (Kind::Refused, Outcome::Refused(number)) => number == FENCED,
+            (Kind::RangeOfAll | Kind::RangeOfHalf, Outcome::Done) => written == 0,
             _ => false,
         }
     }
@@ -130,6 +139,11 @@ fn group_for<C: Coordinator>(kind: Kind, members: u8) -> C {
         Kind::Takes => targeted(members),
         Kind::SweepOne => silent_last(members),
         Kind::Install | Kind::InstallRefused => untargeted(members),
+        Kind::RangeOfAll => mixed(members, |_| ALL_TOPICS),
+        Kind::RangeOfHalf => mixed(members, |place| match place % 2 {
+            0 => EVEN_TOPICS,
+            _ => !EVEN_TOPICS,
+        }),
     }
 }
 
@@ -150,18 +164,40 @@ fn events_for<C: Coordinator>(kind: Kind, members: u8, group: &C) -> Vec<Event> 
         Kind::SweepOne => vec![Event::Sweep { tick: OVERDUE }],
         Kind::Install => vec![install(group, moved_target(members))],
         Kind::InstallRefused => vec![install(group, without_last(moved_target(members)))],
+        Kind::RangeOfAll | Kind::RangeOfHalf => vec![Event::RangeTarget],
     }
 }
 
-/// Sixteen topics of sixty-four partitions, and members that subscribe to all.
-fn joined<C: Coordinator>(members: u8) -> C {
+/// Sixteen topics of sixty-four partitions.
+fn with_topics<C: Coordinator>() -> C {
     let mut group = C::made(START);
     for number in 0..TOPICS {
         let count = PARTITIONS;
         prepare(&mut group, &Event::Topic { number, count });
     }
+    group
+}
+
+/// And members that subscribe to all.
+fn joined<C: Coordinator>(members: u8) -> C {
+    let mut group = with_topics();
     for place in 0..members {
         prepare(&mut group, &join(place, START));
+    }
+    group
+}
+
+/// Or members that subscribe to these, by place, and whose IDs don't rise as the places do. The step
+/// from one to the next has no divisor in common with any number of members.
+fn mixed<C: Coordinator>(members: u8, topics: fn(u8) -> u16) -> C {
+    let mut group = with_topics();
+    for place in 0..members {
+        let number = u16::from(place) * 37 % u16::from(members);
+        let beat = Beat {
+            subscription: Some(topics(place)),
+            ..joining(number as u8, START)
+        };
+        prepare(&mut group, &Event::Beat(beat));
     }
     group
 }
@@ -244,13 +280,17 @@ fn of_later(standing: Standing) -> Standing {
 }
 
 pub fn join(place: u8, tick: u32) -> Event {
+    Event::Beat(joining(place, tick))
+}
+
+fn joining(place: u8, tick: u32) -> Beat {
     let epoch = JOINS;
     let owned = Vec::new();
-    Event::Beat(Beat {
+    Beat {
         timeout: REBALANCE_TIMEOUT,
         subscription: Some(ALL_TOPICS),
         ..beat(place, Standing { epoch, owned }, tick)
-    })
+    }
 }
 
 pub fn ordinary(place: u8, standing: Standing, tick: u32) -> Event {
@@ -310,4 +350,23 @@ fn without_last(mut target: Vec<u8>) -> Vec<u8> {
         *entry = NOBODY;
     }
     target
+}
+
+#[cfg(test)]
+mod tests {
+    use super::*;
+
+    #[test]
+    fn range_targets_give_each_slot_to_a_subscriber_and_not_by_place() {
+        for members in [2, 8, 32] {
+            let all = Scene::<plain::Group>::new(Kind::RangeOfAll, members);
+            let all = all.group.range_target();
+            assert!(all.iter().all(|&place| place < members));
+            assert!(members == 2 || !all[..64].is_sorted());
+            let half = Scene::<plain::Group>::new(Kind::RangeOfHalf, members);
+            for (slot, place) in half.group.range_target().into_iter().enumerate() {
+                assert_eq!(usize::from(place % 2), slot / 64 % 2);
+            }
+        }
+    }
 }

@@ -6,12 +6,14 @@ use crate::coordinator::journal::Store;
 use crate::coordinator::{Answer, Group, Heartbeat, Id, Reply};
 use crate::group::SLOTS;
 
+/// `InstallRange` is an install of the range assignor's target, for the group's epoch.
 #[derive(Clone, PartialEq, Eq, Debug)]
 pub enum Event {
     Heartbeat(Beat),
     Sweep { tick: Tick },
     Topic { number: u32, id: Id, count: u32 },
     Install { epoch: i32, entries: Vec<u8> },
+    InstallRange,
 }
 
 #[derive(Clone, PartialEq, Eq, Debug)]
@@ -89,6 +91,10 @@ impl Event {
             Event::Sweep { tick } => group.sweep(tick.seen_from(last), records),
             Event::Topic { number, id, count } => group.topic(*number, *id, *count, records),
             Event::Install { epoch, entries } => group.install(*epoch, entries, records),
+            Event::InstallRange => {
+                let (epoch, entries) = range_install(group);
+                group.install(epoch, &entries, records)
+            }
         }
     }
 
@@ -109,8 +115,17 @@ impl Event {
             Event::Sweep { tick } => store.sweep(tick.seen_from(last)),
             Event::Topic { number, id, count } => store.topic(*number, *id, *count),
             Event::Install { epoch, entries } => store.install(*epoch, entries),
+            Event::InstallRange => {
+                let (epoch, entries) = range_install(store.group());
+                store.install(epoch, &entries)
+            }
         }
     }
+}
+
+/// The epoch and the entries of the install that it comes to.
+pub fn range_install(group: &Group) -> (i32, [u8; SLOTS as usize]) {
+    (group.epoch(), group.range_target())
 }
 
 impl Beat {

@@ -1,28 +1,16 @@
 //! Bytes in hex, runs of equal ones short: `AA x16`.
 
+use crate::wrap::{self, WIDTH};
+
 /// A shorter run is written out.
 const SHORTEST_RUN: usize = 4;
 
-/// Longer lines are broken between two bytes.
-const WIDTH: usize = 66;
-
-/// The bytes in lines; no bytes are one line `none`.
+/// The bytes in lines, broken between two bytes; no bytes are one line `none`.
 pub fn lines(bytes: &[u8]) -> Vec<String> {
-    if bytes.is_empty() {
-        return vec!["none".into()];
+    match bytes {
+        [] => vec!["none".into()],
+        _ => wrap::lines(words(bytes), WIDTH),
     }
-    let mut lines = vec![String::new()];
-    for word in words(bytes) {
-        match lines.last_mut() {
-            Some(line) if line.is_empty() => line.push_str(&word),
-            Some(line) if line.len() + 1 + word.len() <= WIDTH => {
-                line.push(' ');
-                line.push_str(&word);
-            }
-            _ => lines.push(word),
-        }
-    }
-    lines
 }
 
 fn words(bytes: &[u8]) -> Vec<String> {

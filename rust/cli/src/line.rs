@@ -48,8 +48,13 @@ const SWEEP: Form = Form {
 };
 const INSTALL: Form = Form {
     name: "install",
-    usage: "install epoch EPOCH [SLOTS to PLACE]... [length N] [room BYTES]",
+    usage: "install epoch EPOCH [SLOTS to PLACE]... [length N] [room BYTES], or install range",
     keywords: &["epoch", "length", "room"],
+};
+const INSTALL_RANGE: Form = Form {
+    name: "install range",
+    usage: "install range, with nothing after it",
+    keywords: &[],
 };
 
 const EVENTS: &str = "fresh, topic, join, beat, leave, sweep or install";
@@ -135,6 +140,17 @@ fn sweep(tail: Tail) -> Result<(Event, Lent), Fault> {
 }
 
 fn install(tail: Tail) -> Result<(Event, Lent), Fault> {
+    let end = tail.end;
+    match tail.words.split_first() {
+        Some((first, words)) if first.text == "range" => {
+            Tail { words, end }.fields(&INSTALL_RANGE)?;
+            Ok((Event::InstallRange, Lent::ENOUGH))
+        }
+        _ => install_entries(tail),
+    }
+}
+
+fn install_entries(tail: Tail) -> Result<(Event, Lent), Fault> {
     let fields = Fields::read(&INSTALL, tail.words, tail.end)?;
     let mut entries = entries(&fields.rest)?;
     entries.resize(fields.size("length", SLOTS.into())?, NO_PLACE);

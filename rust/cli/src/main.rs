@@ -26,8 +26,10 @@ mod session;
 mod slots;
 mod style;
 mod table;
+mod target;
 mod why;
 mod words;
+mod wrap;
 
 use arguments::{Job, Journal, Source};
 use failure::Failure;

@@ -4,7 +4,7 @@ use std::io::{self, Write};
 use std::mem;
 
 use crate::coordinator::Answer;
-use crate::event::{Event, Lent, Outcome};
+use crate::event::{range_install, Event, Lent, Outcome};
 use crate::failure::Failure;
 use crate::found::Found;
 use crate::host::Host;
@@ -12,7 +12,8 @@ use crate::line::Step;
 use crate::picture::Picture;
 use crate::style::Style;
 use crate::words::parts;
-use crate::{answer, hex, slots, why};
+use crate::wrap::{self, WIDTH};
+use crate::{answer, hex, slots, target, why};
 
 pub struct Session<W> {
     out: W,
@@ -73,6 +74,9 @@ impl<W: Write> Session<W> {
     fn event(&mut self, event: &Event, lent: Lent, line: &str) -> Result<(), Failure> {
         self.events += 1;
         self.heading(&self.events.to_string(), line)?;
+        if let Event::InstallRange = event {
+            self.range()?;
+        }
         let outcome = self.host.run(event, lent).map_err(Failure::Journal)?;
         self.outcome(&outcome, event, lent)?;
         let picture = Picture::of(self.host.group());
@@ -100,6 +104,14 @@ impl<W: Write> Session<W> {
         }
     }
 
+    /// The install that the range assignor's comes to, as a script would have it.
+    fn range(&mut self) -> io::Result<()> {
+        let (epoch, entries) = range_install(self.host.group());
+        let install = ["install".into(), format!("epoch {epoch}")];
+        let words = install.into_iter().chain(target::words(&entries));
+        self.labelled_lines("range", &wrap::lines(words, WIDTH))
+    }
+
     fn outcome(&mut self, outcome: &Outcome, event: &Event, lent: Lent) -> io::Result<()> {
         let because = |refusal| why::why(refusal, event, lent, self.host.group());
         let words = answer::words(outcome.answer, because);
@@ -110,10 +122,14 @@ impl<W: Write> Session<W> {
         if let Answer::Assignment { .. } = outcome.answer {
             self.labelled("slots", &slots::show(&outcome.slots))?;
         }
-        let mut label = "bytes";
-        for line in hex::lines(&outcome.bytes) {
-            self.labelled(label, &line)?;
-            label = "";
+        self.labelled_lines("bytes", &hex::lines(&outcome.bytes))
+    }
+
+    /// With the label at the first of them.
+    fn labelled_lines(&mut self, label: &str, lines: &[String]) -> io::Result<()> {
+        let labels = [label].into_iter().chain(std::iter::repeat(""));
+        for (label, line) in labels.zip(lines) {
+            self.labelled(label, line)?;
         }
         Ok(())
     }

@@ -1,5 +1,7 @@
 //! A table in text: columns as wide as they need, long cells broken between words.
 
+use crate::wrap;
+
 /// Wider cells are broken.
 const WIDEST: usize = 32;
 
@@ -20,19 +22,9 @@ fn width(rows: &[Vec<Vec<String>>], column: usize) -> usize {
     lines.map(|line| line.len()).max().unwrap_or(0)
 }
 
-/// A cell's lines, broken at blanks; a word that is too wide stands alone.
+/// A cell's lines, broken at blanks.
 fn broken(cell: &str) -> Vec<String> {
-    let mut lines: Vec<String> = Vec::new();
-    for word in cell.split(' ') {
-        match lines.last_mut() {
-            Some(line) if line.len() + 1 + word.len() <= WIDEST => {
-                line.push(' ');
-                line.push_str(word);
-            }
-            _ => lines.push(word.into()),
-        }
-    }
-    lines
+    wrap::lines(cell.split(' ').map(String::from), WIDEST)
 }
 
 fn lines(cells: &[Vec<String>], widths: &[usize]) -> Vec<String> {

@@ -1,4 +1,4 @@
-/* Counts what the library copies in one call of each event and of each function of the journal: its own memcpy and memmove stand in for the C library's. See docs/BENCHMARKS.md. */
+/* Counts what the library copies in one call of each of events.h: its own memcpy and memmove stand in for the C library's. See docs/BENCHMARKS.md. */
 #include <stdio.h>
 
 #include "events.h"

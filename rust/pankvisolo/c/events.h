@@ -1,7 +1,7 @@
 /*
- * An event of each kind on a group of 32 members, and the functions of the journal, for the programs that measure
- * what a call takes. Sixteen topics of sixty-four partitions are shared evenly, and every member has its share or is
- * to have it.
+ * An event of each kind on a group of 32 members, the range assignor, and the functions of the journal, for the
+ * programs that measure what a call takes. Sixteen topics of sixty-four partitions are shared evenly, and every
+ * member has its share or is to have it.
  */
 #include <string.h>
 
@@ -55,6 +55,8 @@ static void install(void) {
     reply = pankvisolo_install(&group, (int32_t)group.epoch, entries, sizeof entries, records, sizeof records);
     keep();
 }
+
+static void assign(void) { pankvisolo_range_target(&group, entries); }
 
 static void make(void) {
     group = pankvisolo_fresh(START);
@@ -188,6 +190,7 @@ static const struct event {
     {"topic", lacking_topic, set_topic, 0},
     {"install of the first target", joined, install, 0},
     {"install that changes every target", resettled, install, 0},
+    {"range target", joined, assign, 0},
     {"fresh", settled, make, 0},
 };
 

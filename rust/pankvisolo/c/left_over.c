@@ -3,7 +3,7 @@
 #include <stdio.h>
 #include <string.h>
 
-#include "pankvisolo.h"
+#include "one_group.h"
 
 #define SIXTEEN(byte) byte, byte, byte, byte, byte, byte, byte, byte, byte, byte, byte, byte, byte, byte, byte, byte
 
@@ -15,28 +15,7 @@ static const uint8_t journal[] = {
     7, 7, 0, 2, 0, 1, 6, 1,
 };
 
-static struct pankvisolo_group group;
-static uint8_t records[4096];
 static uint8_t entries[PANKVISOLO_SLOTS];
-
-static void set_topic(uint32_t number, uint32_t count) {
-    struct pankvisolo_id id;
-    memset(id.bytes, 0x11 + (int)number, sizeof id.bytes);
-    pankvisolo_set_topic(&group, number, id, count, records, sizeof records);
-}
-
-/* Epoch 0 joins, -1 leaves. */
-static void send(int byte, int32_t epoch, uint16_t subscription) {
-    struct pankvisolo_request request;
-    memset(&request, 0, sizeof request);
-    memset(request.id, byte, sizeof request.id);
-    request.epoch = epoch;
-    request.tick = group.tick;
-    request.timeout = 300;
-    request.has_subscription = request.has_list = true;
-    request.subscription = subscription;
-    pankvisolo_heartbeat(&group, &request, NULL, 0, records, sizeof records, NULL, 0);
-}
 
 /* For the group's epoch; the group stays as it is. */
 static void install(const char *name) {

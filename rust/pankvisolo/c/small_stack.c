@@ -1,4 +1,4 @@
-/* Every kind of event on a thread with the smallest stack that POSIX lets a program ask for, 16 KB where that is less. */
+/* Every kind of event, and the range assignor, on a thread with the smallest stack that POSIX lets a program ask for, 16 KB where that is less. */
 #define _POSIX_C_SOURCE 200809L
 #include <limits.h>
 #include <pthread.h>

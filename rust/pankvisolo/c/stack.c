@@ -1,6 +1,6 @@
 /*
- * Measures how much stack one call of each event and of each function of the journal takes, and fails where one
- * takes more than the header says.
+ * Measures how much stack one call of each event, of the range assignor and of each function of the journal takes,
+ * and fails where one takes more than the header says.
  * Each runs on a thread whose stack is memory of this program: what lies below the thread's own frame is
  * painted before the call and looked at after it. See docs/BENCHMARKS.md.
  */

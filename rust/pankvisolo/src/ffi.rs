@@ -86,9 +86,9 @@ pub(crate) struct Extent {
     pub end: usize,
 }
 
-/// A group crosses as a pointer, a slice as a pointer and then a length.
+/// A group or an array crosses as a pointer, a slice as a pointer and then a length.
 mod exported {
-    use super::{Extent, Group, Id, Reading, Reply, Request};
+    use super::{Extent, Group, Id, Reading, Reply, Request, SLOTS};
 
     extern "C" {
         pub fn pankvisolo_fresh(tick: u32) -> Group;
@@ -128,6 +128,8 @@ mod exported {
             records: *mut u8,
             records_length: usize,
         ) -> Reply;
+
+        pub fn pankvisolo_range_target(group: *const Group, entries: *mut [u8; SLOTS]);
 
         pub fn pankvisolo_read_journal(
             group: *mut Group,
@@ -230,6 +232,13 @@ pub(crate) fn install(group: &mut Group, epoch: i32, entries: &[u8], records: &m
             records.len(),
         )
     }
+}
+
+pub(crate) fn range_target(group: &Group) -> [u8; SLOTS] {
+    let mut entries = [NO_PLACE; SLOTS];
+    // SAFETY: as for `heartbeat`, with the group read and `entries` written.
+    unsafe { exported::pankvisolo_range_target(group, &mut entries) };
+    entries
 }
 
 /// The group is written over, whatever it was.

@@ -81,10 +81,55 @@ impl Group {
     ///
     /// A slot that exists and to whose topic some member subscribes goes to such a member, and every
     /// other slot to nobody; the first for which that isn't so is refused
-    /// ([`BadTarget`](crate::Refusal::BadTarget)).
+    /// ([`BadTarget`](crate::Refusal::BadTarget)). Where the host has no assignor of its own,
+    /// [`range_target`](Group::range_target) has the entries.
     #[inline]
     pub fn install(&mut self, epoch: i32, entries: &[u8], records: &mut [u8]) -> Reply {
         answers::of_change(&ffi::install(&mut self.value, epoch, entries, records))
+    }
+}
+
+/// The range assignor.
+impl Group {
+    /// A target for the group as it is, for a host that has no assignor of its own: the entries of an
+    /// [`install`](Group::install), each a place or 255 for nobody. Nothing of the group changes.
+    ///
+    /// Of each topic the members that subscribe to it are taken in rising order of ID bytes; of n
+    /// partitions over k members the first n mod k get one more than the rest, each a run of
+    /// neighbours, in that order. With k = 0 none are given.
+    ///
+    /// An install of it for the group's epoch is accepted whenever the target epoch is below the
+    /// group's and there is room for the records; 4,096 bytes always are. It depends on the topics
+    /// and on the members' subscriptions and IDs alone, not on who holds what. So a host calls it, and
+    /// installs what it got, after each answer with which the group's epoch rose above the target's,
+    /// and after a journal is read, where the target's is below.
+    ///
+    /// ```
+    /// use pankvisolo::{Answer, Group, Heartbeat};
+    ///
+    /// let (mut records, mut assignment) = ([0; 4096], [0; 1024]);
+    /// let mut group = Group::new(1_000);
+    /// group.topic(0, [0x11; 16], 3, &mut records);
+    /// for id in [[0xBB; 16], [0xAA; 16]] {
+    ///     let join = Heartbeat {
+    ///         id,
+    ///         epoch: 0,
+    ///         tick: 1_000,
+    ///         timeout: 300,
+    ///         subscription: Some(1),
+    ///         owned: Some(&[]),
+    ///     };
+    ///     group.heartbeat(&join, &mut records, &mut assignment);
+    /// }
+    /// // The ID of the member at place 1 comes first, so it gets one more.
+    /// let target = group.range_target();
+    /// assert_eq!(target[..4], [1, 1, 0, 255]);
+    /// assert!(group.target_epoch() < group.epoch());
+    /// let reply = group.install(group.epoch(), &target, &mut records);
+    /// assert_eq!(reply.answer, Answer::Done);
+    /// ```
+    pub fn range_target(&self) -> [u8; 1024] {
+        ffi::range_target(&self.value)
     }
 }
 

@@ -4,7 +4,8 @@
 //! is accepted: the group is the next one, the bytes to store stand at the start of the lent
 //! `records`, and for a join or an ordinary heartbeat the member's slots stand at the start of the
 //! lent `assignment`. What lies behind the accepted part of either is left as it was. Every
-//! function takes every value; 4,096 bytes and 1,024 slots are room enough for any event.
+//! function takes every value; 4,096 bytes and 1,024 slots are room enough for any event. A host that
+//! has no assignor installs what [`Group::range_target`] gives.
 //!
 //! ```
 //! use pankvisolo::{Answer, Group, Heartbeat};

@@ -17,6 +17,7 @@ fn events() {
     let _: fn(&mut Group, u32, &mut [u8]) -> Reply = Group::sweep;
     let _: fn(&mut Group, u32, Id, u32, &mut [u8]) -> Reply = Group::topic;
     let _: fn(&mut Group, i32, &[u8], &mut [u8]) -> Reply = Group::install;
+    let _: fn(&Group) -> [u8; 1024] = Group::range_target;
     let _: fn(u32, i32, i32) -> Group = Group::at_epochs;
     let _: fn(&Group) -> Group = Clone::clone;
 }

@@ -19,6 +19,7 @@ mod limits;
 mod member;
 mod ordinary;
 mod protocol;
+mod range;
 mod records;
 mod refusal;
 mod sweep;

@@ -1,7 +1,7 @@
 //! What a coordinator must offer to be tried, and `coordinate!` and `translate!`, which give it to a
 //! crate that has the names of the binding.
 
-use crate::data::{Beat, Event, Id, Member, Reply, Start, Topic};
+use crate::data::{Beat, Event, Id, Member, Reply, Start, Topic, SLOTS};
 
 /// Two are equal where nothing differs, not even what no function of them shows.
 pub trait Coordinator: Clone + PartialEq {
@@ -19,6 +19,7 @@ pub trait Coordinator: Clone + PartialEq {
     fn topic_at(&self, number: u8) -> Option<Topic>;
     fn member_at(&self, place: u8) -> Option<Member>;
     fn target_of(&self, slot: u16) -> Option<u8>;
+    fn range_target(&self) -> [u8; SLOTS];
 
     fn start(start: Start) -> Self {
         match start {
@@ -114,6 +115,10 @@ macro_rules! coordinate {
 
             fn target_of(&self, slot: u16) -> Option<u8> {
                 $api::Group::target_of(self, slot)
+            }
+
+            fn range_target(&self) -> [u8; SLOTS] {
+                $api::Group::range_target(self)
             }
         }
     };

@@ -1,6 +1,7 @@
 //! Situations that events come to, told from the group before and after them.
 
 mod left_over;
+mod range;
 
 use crate::data::{Event, Turn};
 use crate::labels::labels;
@@ -52,6 +53,11 @@ labels! {
         HoleBySubscription = "a hole by a changed subscription, T was G",
         HoleBySubscriptionLater = "a hole by a changed subscription, T was below G",
         HoleInForce = "a hole while T stays G",
+        RangeUneven = "a range target with shares that differ",
+        RangeFewer = "a range target of fewer partitions than subscribers",
+        RangeUnwanted = "a range target without a topic nobody subscribes to",
+        RangeNotByPlace = "a range target in which places don't rise",
+        RangeInForce = "an install of the range target",
     }
 }
 
@@ -80,6 +86,9 @@ pub fn is_reached(situation: Situation, turn: &Turn, step: &Step) -> bool {
         LongerBuffer => turn.buffer > 1 && step.reply.written == turn.buffer - 1,
         ExactList => turn.list > 0 && step.slots.len() == turn.list,
         LongerList => turn.list > 1 && step.slots.len() == turn.list - 1,
+        RangeUneven | RangeFewer | RangeUnwanted | RangeNotByPlace | RangeInForce => {
+            range::is_reached(situation, turn, step)
+        }
         _ => left_over::is_reached(situation, turn, step),
     }
 }

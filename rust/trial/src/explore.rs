@@ -5,6 +5,7 @@ use crate::data::{Run, Turn};
 use crate::generate::{Profile, World, PROFILES};
 use crate::panics::caught;
 use crate::random::Random;
+use crate::range::try_installs;
 use crate::report::Report;
 use crate::rounds::three_rounds;
 use crate::tally::Tally;
@@ -71,7 +72,10 @@ fn events<S: Coordinator, R: Coordinator>(
     for _ in 0..world.length() {
         let turn = world.next(&trial.reference);
         run.turns.push(turn.clone());
-        turn_of_world(&mut trial, world, &turn, tally)?;
+        let range_is_new = turn_of_world(&mut trial, world, &turn, tally)?;
+        if range_is_new {
+            installs_of_range(&trial, world.tries_exact_room(), run, tally)?;
+        }
         rounds_at_times(&trial, world, run, tally)?;
     }
     tally.lost_answers += world.lost_answers;
@@ -82,15 +86,30 @@ fn profile_of(index: u64) -> &'static Profile {
     &PROFILES[(index % PROFILES.len() as u64) as usize]
 }
 
+/// Whether the range target was looked at anew.
 fn turn_of_world<S: Coordinator, R: Coordinator>(
     trial: &mut Trial<S, R>,
     world: &mut World,
     turn: &Turn,
     tally: &mut Tally,
-) -> Result<(), Fault> {
+) -> Result<bool, Fault> {
     let step = trial.step(turn)?;
     tally.count(turn, &step);
     world.learn(turn, step.reply, step.slots);
+    Ok(step.range_is_new)
+}
+
+/// The range target is installed on copies. A fault there shows in any run; it needs no copies.
+fn installs_of_range<S: Coordinator, R: Coordinator>(
+    trial: &Trial<S, R>,
+    exact_room: bool,
+    run: &mut Run,
+    tally: &mut Tally,
+) -> Result<(), Fault> {
+    let mut turns = Vec::new();
+    let outcome = try_installs(trial, exact_room, &mut turns);
+    run.turns.append(&mut turns);
+    tally.ranges_tried += u64::from(outcome?);
     Ok(())
 }
 

@@ -4,7 +4,9 @@
 //! not. Besides, each answer is held against 01's table, the group against the one that is read from
 //! the stored records, and 01's ledger, fed nothing of the group, watches that no slot is with two
 //! members. From random points of a run three rounds of heartbeats must bring every member to its
-//! target.
+//! target. Wherever a member, a subscription, a topic or G changed, the two range targets are compared
+//! and held against request 4's words; and from random points where T is below G they are installed on
+//! copies.
 //!
 //! Journals are tried the same way (`journal`): two readers are given files as they were written, and
 //! damaged ones, and must read the same group from each and stop at the same byte.
@@ -28,6 +30,7 @@ pub mod ledger;
 mod lent;
 mod panics;
 pub mod random;
+pub mod range;
 pub mod reader;
 pub mod reasons;
 mod repair;

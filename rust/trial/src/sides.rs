@@ -3,7 +3,7 @@
 //! make its crate a dependency, add its lines below, and give its group as the subject.
 
 use crate::coordinator::{coordinate, translate};
-use crate::data::{Answer, Beat, Id, Member, Reply, Topic};
+use crate::data::{Answer, Beat, Id, Member, Reply, Topic, SLOTS};
 use crate::journal::reads::read_journals;
 
 coordinate!(pankvisolo);

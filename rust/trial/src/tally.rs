@@ -73,6 +73,9 @@ pub struct Tally {
     pub busy_rounds: u64,
     /// Answers that never reached the honest client who had sent the heartbeat.
     pub lost_answers: u64,
+    /// Range targets compared, and of them those of which installs were tried.
+    pub ranges: u64,
+    pub ranges_tried: u64,
     accepted: [u64; Kind::ALL.len()],
     refused: [u64; Reason::ALL.len()],
     /// By the row given and a later one earned besides.
@@ -89,6 +92,8 @@ impl Default for Tally {
             rounds: 0,
             busy_rounds: 0,
             lost_answers: 0,
+            ranges: 0,
+            ranges_tried: 0,
             accepted: [0; Kind::ALL.len()],
             refused: [0; Reason::ALL.len()],
             pairs: [[0; Row::ALL.len()]; Row::ALL.len()],
@@ -104,6 +109,7 @@ impl Tally {
 
     pub fn count(&mut self, turn: &Turn, step: &Step) {
         self.events += 1;
+        self.ranges += u64::from(step.range_is_new);
         match step.earned.due {
             Some(reason) => self.count_refusal(reason, turn, step),
             None => self.accepted[kind(turn, step) as usize] += 1,
@@ -175,6 +181,12 @@ impl Tally {
         if self.lost_answers == 0 {
             never.push("an answer that got lost".into());
         }
+        if self.ranges == 0 {
+            never.push("a range target compared".into());
+        }
+        if self.ranges_tried == 0 {
+            never.push("a range target of which installs were tried".into());
+        }
         never
     }
 }
@@ -184,10 +196,13 @@ impl fmt::Display for Tally {
         let (events, runs) = (self.events, self.runs);
         let (rounds, in_rounds) = (self.rounds, self.events_in_rounds);
         let (busy, lost) = (self.busy_rounds, self.lost_answers);
+        let (ranges, tried) = (self.ranges, self.ranges_tried);
         writeln!(f, "{events:>10}  events in {runs} runs")?;
         writeln!(f, "{in_rounds:>10}  of them in {rounds} times three rounds")?;
         writeln!(f, "{busy:>10}  of the three rounds had something to move")?;
         writeln!(f, "{lost:>10}  answers got lost")?;
+        writeln!(f, "{ranges:>10}  range targets compared")?;
+        writeln!(f, "{tried:>10}  of them installed on copies")?;
         writeln!(f, "\nAccepted")?;
         for &kind in Kind::ALL {
             writeln!(f, "{:>10}  {}", self.accepted(kind), kind.label())?;
@@ -238,11 +253,17 @@ mod tests {
     use super::*;
 
     #[test]
-    fn a_trial_of_no_events_has_missed_every_refusal() {
+    fn a_trial_of_no_events_has_missed_every_refusal_and_range_target() {
         let never = Tally::new().never();
         for &reason in Reason::ALL {
             let missed = format!("{}: {}", reason.row().label(), reason.label());
             assert!(never.contains(&missed), "{missed}");
+        }
+        for missed in [
+            "a range target compared",
+            "a range target of which installs were tried",
+        ] {
+            assert!(never.contains(&missed.into()), "{missed}");
         }
     }
 }

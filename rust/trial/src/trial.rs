@@ -4,11 +4,12 @@ use std::fmt;
 use std::mem;
 
 use crate::coordinator::Coordinator;
-use crate::data::{Answer, Reply, Start, Turn};
+use crate::data::{Answer, Reply, Start, Turn, NO_PLACE, SLOTS};
 use crate::force::Force;
 use crate::ledger::Ledger;
 use crate::lent::Lent;
 use crate::panics::caught;
+use crate::range;
 use crate::reader::{self, Record};
 use crate::reasons::{self, Reason};
 use crate::snapshot::Snapshot;
@@ -37,6 +38,8 @@ pub enum Check {
     Records,
     /// 01's ledger.
     Ledger,
+    /// Two range targets, one that is against request 4's words, or one that no install takes.
+    Range,
     /// The three rounds.
     Rounds,
     /// A coordinator that panicked instead of answering.
@@ -65,6 +68,9 @@ pub struct Trial<S, R> {
     pub ledger: Ledger,
     pub force: Force,
     stored: Stored,
+    /// The range target, and whether it may have become another since it was looked at.
+    range: [u8; SLOTS],
+    range_is_due: bool,
     subject_before: S,
     before: Snapshot,
     after: Snapshot,
@@ -80,6 +86,9 @@ pub struct Step<'a> {
     pub slots: &'a [u16],
     pub records: Vec<Record>,
     pub earned: Earned,
+    /// The range target after it, and whether it was looked at anew.
+    pub range: &'a [u8; SLOTS],
+    pub range_is_new: bool,
     pub before: &'a Snapshot,
     pub after: &'a Snapshot,
 }
@@ -102,6 +111,8 @@ impl<S: Coordinator, R: Coordinator> Trial<S, R> {
             ledger: Ledger::new(),
             force: Force::new(),
             stored: Stored::new(start),
+            range: [NO_PLACE; SLOTS],
+            range_is_due: true,
             before: after.clone(),
             reference_after: after.clone(),
             after,
@@ -124,11 +135,18 @@ impl<S: Coordinator, R: Coordinator> Trial<S, R> {
         self.check_groups(reply)?;
         let earned = self.check_table(turn, reply)?;
         let records = self.feed(turn, reply)?;
+        self.range_is_due |= records.iter().any(range::may_change);
+        let range_is_new = mem::take(&mut self.range_is_due);
+        if range_is_new {
+            self.check_range()?;
+        }
         Ok(Step {
             reply,
             slots: &self.ours.list[..reply.answer.told()],
             records,
             earned,
+            range: &self.range,
+            range_is_new,
             before: &self.before,
             after: &self.after,
         })
@@ -215,5 +233,21 @@ impl<S: Coordinator, R: Coordinator> Trial<S, R> {
             .and_then(|()| self.ledger.single_holder())
             .map_err(|what| Fault::new(Check::Ledger, what))?;
         Ok(records)
+    }
+
+    /// The two range targets are the same, and as the words say. Looking for one changes nothing.
+    fn check_range(&mut self) -> Result<(), Fault> {
+        self.subject_before.clone_from(&self.subject);
+        self.range = self.subject.range_target();
+        if self.subject != self.subject_before {
+            let what = "a look for the range target changed the group";
+            return Err(Fault::new(Check::Change, what));
+        }
+        let what = range::difference(&self.range, &self.reference.range_target())
+            .or_else(|| range::misfit(&self.range, &self.after));
+        match what {
+            Some(what) => Err(Fault::new(Check::Range, what)),
+            None => Ok(()),
+        }
     }
 }

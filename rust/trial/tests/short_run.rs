@@ -24,7 +24,10 @@ fn without_difference<S: Coordinator>(seed: u64, events: u64) -> Tally {
         run: None,
     };
     match explore::<S, Reference>(plan, |_| ()) {
-        Ok(tally) => tally,
+        Ok(tally) => {
+            assert!(tally.ranges > 0 && tally.ranges_tried > 0, "{tally}");
+            tally
+        }
         Err(report) => panic!("{report}"),
     }
 }

@@ -17,6 +17,7 @@ mod install;
 mod join;
 mod leave;
 mod ordinary;
+mod range;
 mod records;
 mod slots;
 mod sweep;

@@ -7,3 +7,5 @@ use tuned as coordinator;
 mod host;
 #[path = "../../plain/tests/requests/left_over.rs"]
 mod left_over;
+#[path = "../../plain/tests/requests/range.rs"]
+mod range;

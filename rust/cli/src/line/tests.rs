@@ -140,6 +140,22 @@ fn an_install_may_have_another_length_and_no_slots() {
 }
 
 #[test]
+fn an_install_of_the_range() {
+    assert_eq!(event("install range"), Event::InstallRange);
+    assert_eq!(event("  install  range # c"), Event::InstallRange);
+    for word in ["room", "epoch", "length", "to", "range", "t0:0"] {
+        let line = format!("install range {word} 5");
+        let wrong = format!("'{word}' is no part of install range");
+        is_fault(&line, word, &wrong, INSTALL_RANGE.usage);
+        assert_eq!(read(&line).unwrap_err().at, 14);
+    }
+    let wrong = "'range' goes to no place";
+    is_fault("install epoch 1 range", "range", wrong, INSTALL.usage);
+    let wrong = "install has no 'epoch'";
+    is_fault("install", "", wrong, INSTALL.usage);
+}
+
+#[test]
 fn an_unknown_event() {
     is_fault("  jion AA", "jion", "there is no event 'jion'", EVENTS);
     is_fault("Join AA", "Join", "there is no event 'Join'", EVENTS);

@@ -2,6 +2,7 @@
 
 mod kept;
 mod morning;
+mod range;
 mod read;
 mod readme;
 mod running;

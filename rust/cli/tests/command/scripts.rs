@@ -129,6 +129,7 @@ fn help_explains_every_event_and_ends_with_the_example() {
         "leave ",
         "sweep ",
         "install ",
+        "install range ",
         "room ",
         "entries ",
         "length ",

@@ -136,7 +136,8 @@ impl Store {
     }
 
     /// Sets who is to have each slot: an entry for each of the 1,024, a place or 255 for nobody. Which
-    /// lists are refused stands at [`Group::install`].
+    /// lists are refused stands at [`Group::install`]. A host without an assignor of its own has
+    /// [`store.group().range_target()`](Group::range_target).
     pub fn install(&mut self, epoch: i32, entries: &[u8]) -> io::Result<Answer> {
         self.serve(|lent| lent.group.install(epoch, entries, &mut lent.records))
     }

@@ -203,6 +203,17 @@ fn an_install_has_the_epoch_and_the_entries_that_were_given() {
     assert_eq!((short.number, short.slot), (1006, NO_SLOT));
 }
 
+/// The target of the group is the one: its only member has every slot that there is.
+#[test]
+fn a_range_target_has_an_entry_for_each_slot() {
+    assert_eq!(ffi::range_target(&group()), group().target);
+    assert_eq!(ffi::range_target(&group_without_target()), group().target);
+    assert_eq!(
+        ffi::range_target(&ffi::fresh(0)),
+        [ffi::NO_PLACE; ffi::SLOTS]
+    );
+}
+
 /// Of the list the slots that were lent are read, and no more.
 #[test]
 fn a_list_of_owned_slots_is_read_to_its_end() {

@@ -68,7 +68,7 @@ fn no_struct_has_the_name_of_a_function() {
         .filter(|name| name.starts_with("pankvisolo_"))
         .filter(is_name)
         .collect();
-    assert_eq!(functions.len(), 10, "{functions:?}");
+    assert_eq!(functions.len(), 11, "{functions:?}");
     assert!(structs.contains("pankvisolo_group"));
     assert!(structs.is_disjoint(&functions));
 }

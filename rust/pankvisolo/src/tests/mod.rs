@@ -8,4 +8,5 @@ mod c_host;
 mod calls;
 mod header;
 mod left_over;
+mod range_target;
 mod refusals;

@@ -12,5 +12,6 @@ mod folder;
 mod left_over;
 mod morning;
 mod opening;
+mod range_target;
 mod refusals;
 mod trouble;

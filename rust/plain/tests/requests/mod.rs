@@ -9,3 +9,4 @@ mod story;
 mod batches;
 mod files;
 mod left_over;
+mod range;

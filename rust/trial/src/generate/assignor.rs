@@ -1,4 +1,5 @@
-//! Installs: good targets of several sorts, which leave no slot over, and each way to spoil one.
+//! Installs: good targets of several sorts, the range target among them, which leave no slot over, and
+//! each way to spoil one.
 
 use super::World;
 use crate::coordinator::Coordinator;
@@ -74,6 +75,17 @@ impl World {
     }
 
     fn good_entries<C: Coordinator>(&mut self, group: &C, view: &View) -> Vec<u8> {
+        let mut entries = match self.random.chance(1, 9) {
+            true => group.range_target().to_vec(),
+            false => self.shared_out(group, view),
+        };
+        if self.leaves_slots {
+            self.leave_some(&mut entries);
+        }
+        entries
+    }
+
+    fn shared_out<C: Coordinator>(&mut self, group: &C, view: &View) -> Vec<u8> {
         let strategy = self.random.pick(&STRATEGIES);
         let favourite = self.random.below(PLACES.into());
         let mut entries = vec![NO_PLACE; SLOTS];
@@ -98,9 +110,6 @@ impl World {
                     }
                 };
             }
-        }
-        if self.leaves_slots {
-            self.leave_some(&mut entries);
         }
         entries
     }

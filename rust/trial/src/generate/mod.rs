@@ -92,6 +92,11 @@ impl World {
         now.then(|| self.random.next())
     }
 
+    /// Whether the install of a new range target is to be tried with just enough room too.
+    pub fn tries_exact_room(&mut self) -> bool {
+        self.random.chance(1, 8)
+    }
+
     pub fn next<C: Coordinator>(&mut self, group: &C) -> Turn {
         let event = self.event(group);
         let (buffer, list) = self.room(&event, group);

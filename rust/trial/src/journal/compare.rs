@@ -113,6 +113,9 @@ pub fn compare<S: Reads, R: Reads>(
     if let Some(what) = group.difference(&Snapshot::of(&reference.group)) {
         return Err(what);
     }
+    if subject.group.range_target() != reference.group.range_target() {
+        return Err("the group that was read has two range targets".into());
+    }
     check_ends(bytes, &subject)?;
     check_ticks(&group, tick)?;
     check_against_written(journal, file, &subject, &group)?;

@@ -8,6 +8,7 @@ mod mutant;
 mod numbers;
 mod order;
 mod panics;
+mod range;
 mod slots;
 mod tuned;
 

@@ -5,7 +5,7 @@ use std::cell::Cell;
 use std::thread::LocalKey;
 
 use plain::Group as Plain;
-use trial::data::{Answer, Beat, Id, Member, Reply, Topic, PLACES};
+use trial::data::{Answer, Beat, Id, Member, Reply, Topic, PLACES, SLOTS};
 use trial::Coordinator;
 use tuned::Group as Tuned;
 
@@ -35,6 +35,10 @@ pub trait Mutation<G: Mutable = Plain>: Sync {
 
     fn last_tick(&self, mutant: &Mutant<G>) -> u32 {
         mutant.group.last_tick()
+    }
+
+    fn range_target(&self, mutant: &Mutant<G>) -> [u8; SLOTS] {
+        mutant.group.range_target()
     }
 }
 
@@ -80,6 +84,8 @@ pub struct Mutant<G: Mutable = Plain> {
     pub number: i32,
     pub tick: Option<u32>,
     pub target: Vec<Option<u8>>,
+    /// And what it may change where it is only looked at.
+    pub looks: Cell<u32>,
 }
 
 impl<G: Mutable> Mutant<G> {
@@ -90,6 +96,7 @@ impl<G: Mutable> Mutant<G> {
             number: 0,
             tick: None,
             target: vec![None; 1_024],
+            looks: Cell::new(0),
         }
     }
 
@@ -101,7 +108,7 @@ impl<G: Mutable> Mutant<G> {
 
 impl<G: Mutable> PartialEq for Mutant<G> {
     fn eq(&self, other: &Mutant<G>) -> bool {
-        let kept = |of: &Mutant<G>| (of.number, of.tick);
+        let kept = |of: &Mutant<G>| (of.number, of.tick, of.looks.get());
         self.group == other.group && kept(self) == kept(other) && self.target == other.target
     }
 }
@@ -154,6 +161,10 @@ impl<G: Mutable> Coordinator for Mutant<G> {
 
     fn target_of(&self, slot: u16) -> Option<u8> {
         self.group.target_of(slot)
+    }
+
+    fn range_target(&self) -> [u8; SLOTS] {
+        self.mutation.range_target(self)
     }
 }
 
