@@ -1,6 +1,8 @@
 // The range assignor: a target from the group's own members. Each topic's partitions go to its subscribers in runs of neighbours, in rising order of the
 // subscribers' IDs. The places are sorted once, by their IDs as numbers; each topic then takes one pass over them.
 // An array taken as a slice has no code: it tells the prover the array's length.
+#![tactic(auto)]
+
 ghost use Rattle.std.specs.Prelude.{◌≡◌, List, ℕ, suc, ◌≤◌, ◌<◌, ◌+◌, min, ltb, length, replicate};
 ghost use Rattle.rules.specs.Basics.{if◌then◌else◌};
 ghost use Rattle.rules.specs.Constants.{max_partitions, slot_count, topic_count};

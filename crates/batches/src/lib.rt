@@ -1,4 +1,6 @@
 // What the records of a batch say, gathered in one pass over its bytes: the first record of each kind, the places gone, and the target that records 7 leave.
+#![tactic(auto)]
+
 ghost use Rattle.std.specs.Prelude.{◌≡◌, List, [], false, ℕ, length, replicate};
 ghost use Rattle.rules.specs.Constants.{max_members, slot_count};
 ghost use Rattle.reading.specs.Views.{view_record};
@@ -15,7 +17,7 @@ mod laying; // laying.rt: a record 7 laid over a target
 const PLACE_END: u32 = MEMBERS as u32;
 
 // The first record of a kind counts, and only where there is one.
-#[derive(Drop)]
+#[derive(Clone, Copy)]
 pub struct Gathered {
     // every byte belongs to a record, whose numbers are of 32 bits and whose place there is
     pub whole: bool,

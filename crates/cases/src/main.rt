@@ -5,13 +5,15 @@
 // A row: EVENT|ID|EPOCH|TICK|TIMEOUT|N|ROOM|NAME. Of the event the first letter counts, and a number stands right before the next bar. The ID is sixteen times
 // the byte. N is a topic's count, how many slots are listed (from 0 up), or the places for slots 0, 1 and 2 of an install, a digit each, 9 for nobody. ROOM is
 // the length of the buffer lent, 64 at most. The topic is topic 0, and a joiner subscribes to it.
+#![tactic(auto)]
+
 use events::{Outcome, Request};
 use group::{CELLS, EPOCH, TARGET_EPOCH, TOPIC_BYTES};
 use rules::{Answer, NO_PLACE, SLOTS, TOPICS};
 
 const COLUMNS: usize = 7;
 
-#[derive(Drop)]
+#[derive(Clone, Copy)]
 struct Row {
     event: u8,
     column: usize,

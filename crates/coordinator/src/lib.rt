@@ -2,6 +2,8 @@
 // The answer, the group after it, and what the buffer and the list then hold, are `step` of the rules, on all inputs: the answer or the refusal, the whole group,
 // every byte. A refusal changes nothing anywhere: what was lent is the very value that it was.
 // With 4,096 bytes and 1,024 entries lent, 1003 is never given (`NeverRoom` of the rules).
+#![tactic(auto)]
+
 ghost use Rattle.std.specs.Prelude.{◌≡◌, List, ℕ};
 ghost use Rattle.rules.specs.Group.{fresh};
 ghost use Rattle.rules.specs.Event as E;

@@ -8,7 +8,7 @@ use rules::{Answer, NO_SLOT, Refusal};
 // 01's number (0: accepted); the epoch, -1 for a leave; the heartbeat interval; how many slots the answer carries or members a sweep removed; the slot
 // that is reported, or 65,535.
 #[repr(C)]
-#[derive(Drop)]
+#[derive(Clone, Copy)]
 pub struct Said {
     pub number: u32,
     pub interval: u32,

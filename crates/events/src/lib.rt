@@ -1,4 +1,6 @@
 // What the events have in common: a heartbeat's request, an event's outcome, a refusal, and answers as plain numbers.
+#![tactic(auto)]
+
 ghost use Rattle.std.specs.Prelude.{◌≡◌};
 
 mod answers; // answers.rt: answers as plain numbers
@@ -8,7 +10,7 @@ pub use answers::{Said, number_of, what_is_said};
 use rules::{Answer, Id, Refusal};
 
 // What an event comes to: the answer, and how many bytes of records were written to the buffer. The group is where it was.
-#[derive(Drop)]
+#[derive(Clone, Copy)]
 pub struct Outcome {
     pub answer: Answer,
     pub written: usize,
@@ -16,7 +18,7 @@ pub struct Outcome {
 
 // A heartbeat, but for its list of owned slots, which is lent beside it and counts only where `has_list`.
 #[repr(C)]
-#[derive(Drop)]
+#[derive(Clone, Copy)]
 pub struct Request {
     pub id: Id,
     pub epoch: i32,

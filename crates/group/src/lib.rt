@@ -1,6 +1,8 @@
 // The group as it lies in memory: numbers and arrays of numbers alone, so that every part of it can be lent.
 // What the struct stands for is `view` of specs/, and every value of it stands for a group of the rules. A function that only reads is lent what it reads, and
 // one that changes the group is lent what it changes.
+#![tactic(auto)]
+
 ghost use Rattle.std.specs.Prelude.{◌≡◌};
 ghost use Rattle.rules.specs.Group.{fresh};
 ghost use Rattle.group.specs.View.{view};
@@ -59,7 +61,7 @@ pub struct Group {
 }
 
 // A place and, where it is `used`, the member at it: without its slots, which stand in the tables.
-#[derive(Drop)]
+#[derive(Clone, Copy)]
 pub struct Seat {
     pub id: Id,
     pub epoch: u32,
@@ -71,7 +73,7 @@ pub struct Seat {
 }
 
 // What a heartbeat with some epoch asks for.
-#[derive(Drop)]
+#[derive(Clone, Copy)]
 pub enum Kind {
     Joins,
     Leaves,
@@ -80,7 +82,7 @@ pub enum Kind {
 }
 
 // What a search of the places found: the first that passes.
-#[derive(Drop)]
+#[derive(Clone, Copy)]
 pub enum Found {
     At(Place),
     Nowhere,

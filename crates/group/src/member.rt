@@ -8,7 +8,7 @@ use rules::Id;
 use slots::{SlotSet, WORDS};
 
 // A member: `assigned` is 01's A and `revoking` its P.
-#[derive(Drop)]
+#[derive(Clone, Copy)]
 pub struct Member {
     pub id: Id,
     pub epoch: u32,

@@ -6,7 +6,7 @@ ghost use Rattle.group.specs.Words.{word_at, all_zero};
 
 use rules::Id;
 
-#[derive(Drop)]
+#[derive(Clone, Copy)]
 pub struct Words {
     pub a: u32,
     pub b: u32,

@@ -1,4 +1,6 @@
 // Installs of a target. Nobody's slots move here: the members take up the new target in their next heartbeats.
+#![tactic(auto)]
+
 ghost use Rattle.std.specs.Prelude.{◌≡◌, List, ℕ, length};
 ghost use Rattle.rules.specs.Constants.{slot_count};
 ghost use Rattle.rules.specs.Event as E;

@@ -16,7 +16,7 @@ use rules::{MEMBERS, Place, SLOT_END, SLOTS};
 const MOST: usize = 2 * SLOTS + 4 * MEMBERS + 6;
 
 // What storing the records came to: whether the buffer is too short for them, and then nothing is written; else how many bytes they took.
-#[derive(Drop)]
+#[derive(Clone, Copy)]
 pub struct Stored {
     pub short: bool,
     pub written: usize,

@@ -1,5 +1,7 @@
 // A join: a heartbeat with epoch 0. A known member keeps its place, another takes the lowest free one; either starts there with no slots and no target,
 // at the group epoch that its join raises.
+#![tactic(auto)]
+
 ghost use Rattle.std.specs.Prelude.{◌≡◌, true, ◌||◌, List, map, ℕ};
 ghost use Rattle.rules.specs.Basics.{any, default};
 ghost use Rattle.rules.specs.Event as E;
@@ -24,7 +26,7 @@ use slots::SlotSet;
 use tables::bools;
 
 // Where a member joins, and whether it is known: the place is then its own.
-#[derive(Drop)]
+#[derive(Clone, Copy)]
 struct Choice {
     place: Found,
     known: bool,

@@ -2,6 +2,8 @@
 // refused or torn. Any bytes get an answer, and whatever the group held before is forgotten. What holds of every reading is `JournalTheorems` of the rules: a batch is
 // refused exactly when no event would write it, a file cut at any byte gives the group after the events that count, and demand 3 goes on over the reading.
 // A caller that has not the whole file in memory reads it batch by batch: `frames::read_heading`, then for each batch `frames::read_extent` and `judging::read_batch`.
+#![tactic(auto)]
+
 ghost use Rattle.std.specs.Prelude.{◌≡◌, suc, length, drop};
 ghost use Rattle.rules.specs.Group as G;
 ghost use Rattle.rules.specs.Journal.{read_batches, read_journal};

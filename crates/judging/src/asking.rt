@@ -18,7 +18,7 @@ use group::{CELLS, SUBSCRIPTIONS, Seat, members};
 use rules::{CLOCK_LIMIT, ID_LENGTH, Id, LAST_EPOCH, MEMBERS, NO_PLACE, Place};
 
 // A heartbeat with an empty list of owned slots, or without one; `good`: its numbers fit. One that is not good is not run.
-#[derive(Drop)]
+#[derive(Clone, Copy)]
 pub struct Asked {
     pub good: bool,
     pub request: Request,

@@ -1,5 +1,7 @@
 // A batch judged for the group so far: the one event that it can be of is made from its records and run by the coordinator's own function, on the group in
 // place, and what that wrote is compared with the batch. A batch that is refused leaves the group as it was.
+#![tactic(auto)]
+
 ghost use Rattle.std.specs.Prelude.{◌≡◌, length};
 ghost use Rattle.rules.specs.Constants.{batch_limit, slot_count};
 ghost use Rattle.judging.specs.Choices.{Attempts};

@@ -1,4 +1,6 @@
 // A heartbeat that leaves: the member goes, and with it all that its place holds and is to hold.
+#![tactic(auto)]
+
 ghost use Rattle.std.specs.Prelude.{List, ℕ};
 ghost use Rattle.rules.specs.Refusals.{leaves};
 ghost use Rattle.rules.specs.Effects.{leave_at};

@@ -1,5 +1,7 @@
 // Numbers in groups of seven bits, and IDs, written into a buffer that the caller lends. Each writer leaves the rest of the buffer as it was.
 // What a writer promises is in specs/Buffer.antt; the laws by which writers are put together are in proofs/Writing.antt.
+#![tactic(auto)]
+
 ghost use Rattle.std.specs.Prelude.{◌≡◌, ◌+◌, ◌≤◌, length};
 ghost use Rattle.rules.specs.Records.{number};
 ghost use Rattle.numbers.specs.Buffer.{Wrote, WroteAt};

@@ -1,4 +1,6 @@
 // The ordinary heartbeat: of a known member, at its own epoch. The group's parts are lent, and change in place.
+#![tactic(auto)]
+
 ghost use Rattle.std.specs.Prelude.{◌≡◌, false, []};
 ghost use Rattle.rules.specs.Basics.{default};
 ghost use Rattle.rules.specs.Refusals.{ordinary, zero_id};

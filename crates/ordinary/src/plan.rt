@@ -13,7 +13,7 @@ use tables::bools::either;
 use tables::{Advance, PlaceSets};
 
 // Who sends a heartbeat, found once: its place and its seat.
-#[derive(Drop)]
+#[derive(Clone, Copy)]
 pub struct Sender {
     pub place: Place,
     pub seat: Seat,
@@ -21,7 +21,7 @@ pub struct Sender {
 
 // The member after the heartbeat; what steps 2 and 3 do to the tables, of which nothing changes unless A or P `changed`; the group epoch after it; and
 // which records are stored: 5 if the subscription or the timeout is updated, 3 if the group epoch rises, 8 if E, A or P moves.
-#[derive(Drop)]
+#[derive(Clone, Copy)]
 pub struct Plan {
     pub member: Member,
     pub changed: bool,

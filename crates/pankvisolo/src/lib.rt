@@ -3,6 +3,8 @@
 // byte of the group is as it was.
 // A function that takes a group does nothing but lend its parts, all for one lifetime. Its proof is a walk of its code, which tools/walk.py writes where the group
 // is a `&mut`.
+#![tactic(auto)]
+
 ghost use Rattle.std.specs.Prelude.{◌≡◌, List, ℕ};
 ghost use Rattle.rules.specs.Group.{fresh};
 ghost use Rattle.rules.specs.Event as E;
@@ -29,7 +31,7 @@ use rules::{ID_LENGTH, SLOTS};
 
 // The 16 bytes of a topic's ID.
 #[repr(C)]
-#[derive(Drop)]
+#[derive(Clone, Copy)]
 pub struct Id {
     pub bytes: [u8; ID_LENGTH],
 }
@@ -37,7 +39,7 @@ pub struct Id {
 // An answer: 01's number (0: accepted); the heartbeat interval; the epoch, -1 for a leave; how many slots the answer carries or members a sweep removed;
 // the slot that is reported, or 65,535; how many bytes of records were written.
 #[repr(C)]
-#[derive(Drop)]
+#[derive(Clone, Copy)]
 pub struct Reply {
     pub number: u32,
     pub interval: u32,
@@ -50,7 +52,7 @@ pub struct Reply {
 // What a reading says of a journal: WHOLE, TORN or REFUSED; and where its good part ends, and the next batch is to stand: where a torn tail begins, or the offset of
 // the refusal.
 #[repr(C)]
-#[derive(Drop)]
+#[derive(Clone, Copy)]
 pub struct Reading {
     pub verdict: u32,
     pub end: usize,
@@ -65,7 +67,7 @@ pub const REFUSED: u32 = 2;
 // What stands at a place of a journal, where a length would: BATCH, and the batch from `start` to `end`; or WHOLE, if the bytes end there, TORN, if they end inside a
 // length or a batch, REFUSED, if that is no length. Then `start` and `end` are the place.
 #[repr(C)]
-#[derive(Drop)]
+#[derive(Clone, Copy)]
 pub struct Extent {
     pub verdict: u32,
     pub start: usize,

@@ -1,5 +1,7 @@
 // Whether the list of a heartbeat is all that its place has and is to have, so that the heartbeat moves no slot: the test in front of the commonest one.
 // The tables are lent, and no set is gathered.
+#![tactic(auto)]
+
 ghost use Rattle.std.specs.Prelude.{◌≡◌, true, ◌+◌, ◌≤◌};
 ghost use Rattle.rules.specs.Basics.{if◌then◌else◌};
 ghost use Rattle.rules.specs.Constants.{slot_count};

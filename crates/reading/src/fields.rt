@@ -13,19 +13,19 @@ use rules::{ID_LENGTH, Id, SLOT_END};
 use slots::{SlotSet, WORDS};
 
 // A number or a byte, and the place after it.
-#[derive(Drop)]
+#[derive(Clone, Copy)]
 pub struct NumberRead {
     pub value: u32,
     pub next: usize,
 }
 
-#[derive(Drop)]
+#[derive(Clone, Copy)]
 pub struct IdRead {
     pub bytes: Id,
     pub next: usize,
 }
 
-#[derive(Drop)]
+#[derive(Clone, Copy)]
 pub struct SetRead {
     pub set: SlotSet,
     pub next: usize,

@@ -1,5 +1,7 @@
 // Records read back from bytes. At a place of the caller's bytes stands a record whose numbers are of 32 bits, or none: any bytes and any place get an answer.
 // What is read is `read_fitting` of specs/Fitting, the rules' reader of a record.
+#![tactic(auto)]
+
 ghost use Rattle.reading.specs.Views.{ReadsRecord};
 
 use rules::{ID_LENGTH, Id};
@@ -9,7 +11,7 @@ mod fields; // fields.rt: a number, a byte, an ID, a set of slots
 mod kinds; // kinds.rt: a record of each kind
 
 // A record by its kind, with its numbers. Its ID and its sets of slots stand beside it in `RecordRead`.
-#[derive(Drop)]
+#[derive(Clone, Copy)]
 pub enum Kind {
     // 3: the group epoch.
     GroupEpoch(u32),
@@ -31,7 +33,7 @@ pub enum Kind {
 }
 
 // A record, and the place after it: the ID of a topic or a member, the slots of a target or of A, those of P.
-#[derive(Drop)]
+#[derive(Clone, Copy)]
 pub struct RecordRead {
     pub kind: Kind,
     pub id: Id,

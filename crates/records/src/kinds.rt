@@ -12,7 +12,7 @@ use rules::{Id, Place};
 use slots::SlotSet;
 
 // What record 4 says of a topic.
-#[derive(Drop)]
+#[derive(Clone, Copy)]
 pub struct TopicMetadata {
     pub number: u32,
     pub id: Id,
@@ -20,7 +20,7 @@ pub struct TopicMetadata {
 }
 
 // What record 5 says of a member.
-#[derive(Drop)]
+#[derive(Clone, Copy)]
 pub struct MemberMetadata {
     pub place: Place,
     pub id: Id,
@@ -29,14 +29,14 @@ pub struct MemberMetadata {
 }
 
 // What record 7 says of a place: its target.
-#[derive(Drop)]
+#[derive(Clone, Copy)]
 pub struct TargetAssignment {
     pub place: Place,
     pub slots: SlotSet,
 }
 
 // What record 8 says of a member: its epoch E, its A (assigned) and its P (revoking).
-#[derive(Drop)]
+#[derive(Clone, Copy)]
 pub struct CurrentAssignment {
     pub place: Place,
     pub epoch: u32,

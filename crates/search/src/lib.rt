@@ -1,4 +1,6 @@
 // The place of an ID, from the members' columns: 16 places at a time without a branch, by the first of its four words; then place by place.
+#![tactic(auto)]
+
 ghost use Rattle.std.specs.Prelude.{◌≡◌, true, false, ℕ, ◌+◌, ◌≤◌, ◌<◌, length, take};
 ghost use Rattle.rules.specs.Constants.{max_members};
 ghost use Rattle.search.specs.Occurrences.{occurs};

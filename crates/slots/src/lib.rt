@@ -1,5 +1,7 @@
 // Sets of slots, kept as words: slot s is bit s % 64 of word s / 64. What each function does is said slot by slot, by `has`, or of the rising list of
 // the slots, `slots_of`.
+#![tactic(auto)]
+
 ghost use Rattle.std.specs.Prelude.{◌≡◌, false, not, ◌&&◌, ◌||◌, ℕ, ◌%◌, ◌≤◌, eqb, length, get_or};
 ghost use Rattle.rules.specs.Constants.{no_place};
 ghost use Rattle.numbers.specs.Buffer.{Wrote};
@@ -14,7 +16,7 @@ pub use walking::Step;
 // A set takes so many words of 64 slots.
 pub const WORDS: usize = 16;
 
-#[derive(Drop)]
+#[derive(Clone, Copy)]
 pub struct SlotSet {
     pub words: [u64; WORDS],
 }

@@ -8,7 +8,7 @@ ghost use Rattle.slots.specs.Walk.{Left, Steps};
 use crate::{SlotSet, WORDS};
 use rules::SLOT_END;
 
-#[derive(Drop)]
+#[derive(Clone, Copy)]
 pub struct Step {
     // a slot of the set, or 1024 after the last; a number and no `Slot`, since 1024 is no slot
     pub slot: u16,

@@ -1,5 +1,7 @@
 // Sweeps: the members that were not heard of in time, or did not give slots back in time, are removed as if they left, and G rises once for all of them.
 // Who goes is decided on the group as it comes in. Refused are a tick that goes back and a buffer too small; a refusal changes nothing.
+#![tactic(auto)]
+
 ghost use Rattle.std.specs.Prelude.{◌≡◌, List, ◌++◌, ℕ, ◌*◌, ◌+◌, ◌≤◌, length};
 ghost use Rattle.rules.specs.Constants.{slot_count, max_members};
 ghost use Rattle.rules.specs.Records.{group_epoch, all_bytes};

@@ -11,7 +11,7 @@ use slots::SlotSet;
 
 // What steps 2 and 3 come to: A and P after them, whether the place waits for slots of P to be given back, whether P was freed, whether slots moved
 // to P, and whether A or P changed.
-#[derive(Drop)]
+#[derive(Clone, Copy)]
 pub struct Advance {
     pub assigned: SlotSet,
     pub revoking: SlotSet,

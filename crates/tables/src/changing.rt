@@ -9,7 +9,7 @@ ghost use Rattle.tables.specs.Changes.{view_entry, moved_by, followed_by};
 use rules::{NO_PLACE, Place, SLOTS};
 
 // The entries of the tables for one slot.
-#[derive(Drop)]
+#[derive(Clone, Copy)]
 pub struct Entry {
     pub target: u8,
     pub holder: u8,

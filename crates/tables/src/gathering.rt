@@ -7,7 +7,7 @@ use rules::{NO_PLACE, Place, SLOTS};
 use slots::{SlotSet, WORDS};
 
 // A, P and M of a place, and the slots of M that nobody holds.
-#[derive(Drop)]
+#[derive(Clone, Copy)]
 pub struct PlaceSets {
     pub assigned: SlotSet,
     pub revoking: SlotSet,

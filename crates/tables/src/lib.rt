@@ -2,6 +2,8 @@
 // members or epochs.
 // A slot's target and its holder are places, or 255 for none. A held slot that is `waiting` is to be given back.
 // A place that is passed is below 255, which means no place; a law that needs that says so.
+#![tactic(auto)]
+
 ghost use Rattle.tables.specs.View.{Sizes};
 
 use rules::SLOTS;

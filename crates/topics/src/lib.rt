@@ -1,4 +1,6 @@
 // Topic events: a topic is made, or its count raised. Refused are row 1007, an epoch that cannot rise, and a buffer too small.
+#![tactic(auto)]
+
 ghost use Rattle.std.specs.Prelude.{◌≡◌, List, ℕ};
 ghost use Rattle.rules.specs.Event as E;
 ghost use Rattle.rules.specs.Step.{step};
