@@ -5,7 +5,7 @@ use native.Mathlib.Omega.{arith}
 use native.Mathlib.Decide.{ℕ_discrete}
 use native.Mathlib.Numerals.{add-one}
 use mathlib.Core.Path.{◌≡◌, refl, sym, ap, ◌∙◌}
-use mathlib.Core.Bool.{Bool, true, false, ◌||◌, or_true, or_false}
+use mathlib.Core.Bool.{Bool, true, false, ◌||◌, or-true, or-false}
 use mathlib.Core.List.{List, [], ◌∷◌, ◌++◌}
 use lib.Dec.{eqb}
 use lib.ListN.{length, get_or, set, length-append}
@@ -85,11 +85,11 @@ eqb_swap a b = go (ℕ_discrete a b)
     go (no e) = ne_eqb a b e ∙ sym (ne_eqb b a (λ r. e (sym r)))
 
 pub mark_none : (marks : List Bool) (p q : ℕ) → (q ≡ p → ⊥) → get_or marks q false ≡ (get_or marks q false || eqb q p)
-mark_none marks p q e = sym (ap (λ (b : Bool). get_or marks q false || b) (ne_eqb q p e) ∙ or_false (get_or marks q false))
+mark_none marks p q e = sym (ap (λ (b : Bool). get_or marks q false || b) (ne_eqb q p e) ∙ or-false (get_or marks q false))
 
 pub mark_set : (marks : List Bool) (p q : ℕ) → p < length marks → get_or (set marks p true) q false ≡ (get_or marks q false || eqb q p)
 mark_set marks p q h = go (ℕ_discrete q p)
   where
     go : Dec (q ≡ p) → get_or (set marks p true) q false ≡ (get_or marks q false || eqb q p)
-    go (yes e) = rw (eq-eqb q p e, e, get_or-set_same marks p true false h) (sym (or_true (get_or marks p false)))
+    go (yes e) = rw (eq-eqb q p e, e, get_or-set_same marks p true false h) (sym (or-true (get_or marks p false)))
     go (no e) = get_or-set_other marks p q true false e ∙ mark_none marks p q e

@@ -3,7 +3,7 @@
 -- Assumes nothing.
 use Rattle.std.proofs.Common.{◌≡◌, ℕ, suc, ◌+◌, ◌/◌, ◌%◌, ◌^◌, ◌<◌, ◌≤◌, Bool, true, false, not, ◌&&◌, ◌||◌, eqb, List, [], ◌∷◌, map, length, get_or, drop, sym, refl, ap, ◌∙◌, subst, ap₂, add-one, arith, drop_of_length-le, drop-cons, pow_pos, pow_mono}
 use native.Mathlib.Nat.{div-eq_of_lt}
-use mathlib.Core.Bool.{or_false, or_assoc}
+use mathlib.Core.Bool.{or-false, or_assoc}
 use mathlib.Core.Option.{Option, none, some}
 use lib.ListN.{get_or-map}
 use lib.Bits.{bit_or}
@@ -44,7 +44,7 @@ unfolding includes_topic
 union_next t w l i h = rw (add-one i, drop-cons l i 0 h, bit_or_lem w (get_or l i 0) t, or_assoc)
 
 pub union_end : (t w : ℕ) (l : List ℕ) (i : ℕ) → length l ≤ i → includes_topic t w || any (includes_topic t) (drop i l) ≡ includes_topic t w
-union_end t w l i h = rw (drop_of_length-le l h, or_false)
+union_end t w l i h = rw (drop_of_length-le l h, or-false)
 
 -- ---- an entry at a slot that does not exist
 

@@ -1,6 +1,6 @@
 -- Whoever is at a place, read from the columns: whether somebody is, and whether a sweep removes it. Assumes nothing.
 use Rattle.std.proofs.Common.{◌≡◌, ℕ, ◌%◌, ◌<◌, Bool, true, false, not, ◌&&◌, ◌||◌, leb, List, get_or, sym, refl, ap, ◌∙◌}
-use mathlib.Core.Bool.{and-false, and_true, false≢true}
+use mathlib.Core.Bool.{and-false, and-true, false≢true}
 use mathlib.Core.Option.{Option, none, some}
 use Rattle.rules.specs.Basics.{if◌then◌else◌}
 use Rattle.rules.specs.Constants.{max_members, subscription_count, session_timeout}
@@ -50,7 +50,7 @@ module _ (ms : List ℕ) (k : ℕ) where
       where
         go : (z : Bool) → due tick revokes (if z then none else some whoever) ≡ (late tick revokes && not z)
         go true = sym (and-false (late tick revokes))
-        go false = sym (and_true (late tick revokes))
+        go false = sym (and-true (late tick revokes))
 
 pub nobody : (m : Option G.Member) → vacant m ≡ true → m ≡ none
 unfolding vacant

@@ -3,7 +3,7 @@
 use Prim.Native.Nat.{ℕ, ◌≤◌, ◌<◌}
 use native.Mathlib.Omega.{arith}
 use mathlib.Core.Path.{◌≡◌, refl, sym, ap, ◌∙◌}
-use mathlib.Core.Bool.{Bool, true, false, ◌&&◌, ◌||◌, or_false, true≢false}
+use mathlib.Core.Bool.{Bool, true, false, ◌&&◌, ◌||◌, or-false, true≢false}
 use mathlib.Core.List.{List, [], ◌∷◌, ◌++◌}
 use mathlib.Core.Option.{Option, none, some}
 use lib.Dec.{ltb}
@@ -76,7 +76,7 @@ module _ (t : ℕ) (g : Group) (e : Event) (keeps : AllFalse (table g e) → ret
       let k : ltb (length buf) (length (all_bytes f.records)) || false ≡ true =
       ap (λ (b : Bool). ltb (length buf) (length (all_bytes f.records)) || b) (sym (le-ltb (length list) (length f.told) told)) ∙ q in
       nothing_written g buf batch stored
-      ∙ sym (longer f batch (omega (arith, short, ltb-true (length buf) (length (all_bytes f.records)) (sym (or_false _) ∙ k))))
+      ∙ sym (longer f batch (omega (arith, short, ltb-true (length buf) (length (all_bytes f.records)) (sym (or-false _) ∙ k))))
   room false q = all_written f buf batch
 
   by_table : (o : Option Refusal) → first_of (table g e) ≡ o

@@ -1,6 +1,6 @@
 -- A set of slots gathered from its rising list: what is in the set so far is the front of the list.
 use mathlib.Core.Path.{◌≡◌, refl, sym, ap, ap₂, ◌∙◌}
-use mathlib.Core.Bool.{Bool, true, false, ◌&&◌, ◌||◌, or_true, or_false, and_true}
+use mathlib.Core.Bool.{Bool, true, false, ◌&&◌, ◌||◌, or-true, or-false, and-true}
 use mathlib.Core.List.{List, [], ◌∷◌, ◌++◌, append_assoc, append-nil}
 use mathlib.Core.Option.{Option, none, some}
 use Prim.Native.Nat.{ℕ, zero, suc, ◌+◌, ◌-◌, ◌*◌, ◌/◌, ◌%◌, ◌^◌, ◌≤◌, ◌<◌}
@@ -35,9 +35,9 @@ select_more : (f h : ℕ → Bool) (low x : ℕ) → low ≤ x → ((s : ℕ) �
     → select h 0 (x + 1) ≡ select f 0 low ++ x ∷ []
 unfolding keep up_to
 select_more f h low x l z e =
-    let other : (s : ℕ) → (s ≡ x → ⊥) → h s ≡ f s = λ s q. e s ∙ ap (λ (b : Bool). f s || b) (ne_eqb s x q) ∙ or_false (f s) in
+    let other : (s : ℕ) → (s ≡ x → ⊥) → h s ≡ f s = λ s q. e s ∙ ap (λ (b : Bool). f s || b) (ne_eqb s x q) ∙ or-false (f s) in
     let front : select h 0 low ≡ select f 0 low = rules-lists.keep_ext h f 0 low (λ s p q. other s (λ (r : s ≡ x). omega arith)) in
-    let on : h x ≡ true = e x ∙ ap (λ (b : Bool). f x || b) (eq-eqb x x refl) ∙ or_true (f x) in
+    let on : h x ≡ true = e x ∙ ap (λ (b : Bool). f x || b) (eq-eqb x x refl) ∙ or-true (f x) in
     let one : x + 1 - x ≡ suc zero = omega arith in
     let back : select h low (x + 1 - low) ≡ x ∷ [] =
     select_skip h (x + 1) low x l (omega arith) (λ s p q. other s (λ (r : s ≡ x). omega arith) ∙ z s p) ∙ rw (one, on) in
@@ -100,7 +100,7 @@ marked ws x = set ws (x / 64) (bit_or (get_or ws (x / 64) 0) ((1 * 2 ^ (x % 64))
 
 has_marked : (ws : List ℕ) (x : ℕ) → x / 64 < length ws → (y : ℕ) → has (marked ws x) y ≡ (has ws y || eqb y x)
 has_marked ws x h y =
-    has_mark ws x _ true h (bit_put _ (x % 64) true (omega arith) refl) y ∙ ap (λ (b : Bool). has ws y || b) (and_true (eqb y x))
+    has_mark ws x _ true h (bit_put _ (x % 64) true (omega arith) refl) y ∙ ap (λ (b : Bool). has ws y || b) (and-true (eqb y x))
 
 pub rising_start : (s : List ℕ) (at n : ℕ) (ws : List ℕ) → length ws ≡ word_count → ((x : ℕ) → has ws x ≡ false) → Rising s at n ws 0 0 at n
 unfolding keep up_to
@@ -183,7 +183,7 @@ module _ (low x slot : ℕ) (e : slot ≡ (if slot_from low x then x else slot_c
     where
       pick : (b : Bool) → slot_from low x ≡ b → slot_from low x ≡ false
       pick true p =
-          let h = rules-lists.and_true (leb low x) (ltb x slot_count) p in
+          let h = rules-lists.and-true (leb low x) (ltb x slot_count) p in
           let k : slot ≡ x = e ∙ ap (λ (b : Bool). if b then x else slot_count) p in
           absurd (omega (arith, ltb-true x slot_count h.1))
       pick false p = p
@@ -193,6 +193,6 @@ module _ (low x slot : ℕ) (e : slot ≡ (if slot_from low x then x else slot_c
     where
       pick : (b : Bool) → slot_from low x ≡ b → Right low x slot
       pick true p =
-          let h = rules-lists.and_true (leb low x) (ltb x slot_count) p in
+          let h = rules-lists.and-true (leb low x) (ltb x slot_count) p in
           record { passes = p; is = e ∙ ap (λ (b : Bool). if b then x else slot_count) p; above = leb-true low x h.0; below = ltb-true x slot_count h.1 }
       pick false p = absurd (z (e ∙ ap (λ (b : Bool). if b then x else slot_count) p))

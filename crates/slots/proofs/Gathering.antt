@@ -1,6 +1,6 @@
 -- A loop over the slots that gathers those that a test f picks: below i the set g is what f says, from i on it is empty.
 use mathlib.Core.Path.{◌≡◌, refl, sym, ◌∙◌}
-use mathlib.Core.Bool.{Bool, false, ◌&&◌, ◌||◌, or_false}
+use mathlib.Core.Bool.{Bool, false, ◌&&◌, ◌||◌, or-false}
 use Prim.Native.Nat.{ℕ, ◌+◌, ◌≤◌, ◌<◌}
 use native.Mathlib.Decide.{dec_lt}
 use native.Mathlib.Omega.{arith}
@@ -27,7 +27,7 @@ gather_more {f} {g} {i} {on} h e p q = record {
     here = q i ∙ rw (e.rest i (omega arith), eq-eqb i i refl) p
 
     other : (s : ℕ) → (s ≡ i → ⊥) → h s ≡ g s
-    other s r = q s ∙ rw (ne_eqb s i r) (or_false (g s))
+    other s r = q s ∙ rw (ne_eqb s i r) (or-false (g s))
 
 -- slots that are not picked are stepped over
 pub gather_skip : {f g : ℕ → Bool} {i : ℕ} (j : ℕ) → Gather f g i → i ≤ j → ((s : ℕ) → i ≤ s → s < j → f s ≡ false) → Gather f g j

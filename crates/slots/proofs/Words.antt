@@ -1,7 +1,7 @@
 -- Sets as words, slot by slot, by `has`. Storing a word with one bit marked or not marks that slot alone (`has_mark`); an operation on each word that is g
 -- on bits is g on sets (`wordwise`), whence union and difference.
 use mathlib.Core.Path.{◌≡◌, sym, ap, ap₂, ◌∙◌}
-use mathlib.Core.Bool.{Bool, true, false, ◌&&◌, ◌||◌, and_true, and-false, or_false, true≢false}
+use mathlib.Core.Bool.{Bool, true, false, ◌&&◌, ◌||◌, and-true, and-false, or-false, true≢false}
 use mathlib.Core.List.{List}
 use Prim.Native.Nat.{ℕ, ◌*◌, ◌/◌, ◌%◌, ◌^◌, ◌≤◌, ◌<◌}
 use native.Mathlib.Nat.{mod-lt, one-mul}
@@ -35,7 +35,7 @@ has_mark ws n v on h q s = go (ℕ_discrete (s / 64) (n / 64))
     go : Dec (s / 64 ≡ n / 64) → has (set ws (n / 64) v) s ≡ (has ws s || (eqb s n && on))
     go (yes e) = rw (e, get_or-set_same ws (n / 64) v 0 h) (q (s % 64) ∙ rw (same_word s n e))
     go (no d) =
-        rw (get_or-set_other ws (n / 64) (s / 64) v 0 d, ne_eqb s n (λ (p : s ≡ n). d (ap (λ (k : ℕ). k / 64) p))) (sym (or_false (has ws s)))
+        rw (get_or-set_other ws (n / 64) (s / 64) v 0 d, ne_eqb s n (λ (p : s ≡ n). d (ap (λ (k : ℕ). k / 64) p))) (sym (or-false (has ws s)))
 
 -- `1 << b`
 pub shl_one : (b : ℕ) → b < 64 → (1 * 2 ^ b) % 2 ^ 64 ≡ 2 ^ b
@@ -43,11 +43,11 @@ shl_one b h = shl_exact 1 b 64 (lit< tt) (omega arith) ∙ one-mul (2 ^ b)
 
 -- a word with bit b put in
 pub bit_put : (w b : ℕ) (on : Bool) → b < 64 → on ≡ true → (i : ℕ) → bit (bit_or w ((1 * 2 ^ b) % 2 ^ 64)) i ≡ (bit w i || (eqb i b && on))
-bit_put w b on h e i = rw (shl_one b h, e, and_true (eqb i b)) (bit_or_lem w (2 ^ b) i ∙ ap (λ (x : Bool). bit w i || x) (bit_one b i))
+bit_put w b on h e i = rw (shl_one b h, e, and-true (eqb i b)) (bit_or_lem w (2 ^ b) i ∙ ap (λ (x : Bool). bit w i || x) (bit_one b i))
 
 -- nothing is put in
 pub put_none : (x y on : Bool) → on ≡ false → x ≡ (x || (y && on))
-put_none x y on e = rw (e, and-false y) (sym (or_false x))
+put_none x y on e = rw (e, and-false y) (sym (or-false x))
 
 -- past the last word there is nothing
 pub has_past : (ws : List ℕ) (s : ℕ) → length ws ≤ s / 64 → has ws s ≡ false

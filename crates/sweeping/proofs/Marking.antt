@@ -5,7 +5,7 @@ use native.Mathlib.Omega.{arith}
 use native.Mathlib.Decide.{ℕ_discrete}
 use native.Mathlib.Numerals.{add-one}
 use mathlib.Core.Path.{◌≡◌, refl, sym, ap, ◌∙◌}
-use mathlib.Core.Bool.{Bool, true, false, not, ◌&&◌, ◌||◌, and_true, and-false, or_false, or_assoc, true≢false}
+use mathlib.Core.Bool.{Bool, true, false, not, ◌&&◌, ◌||◌, and-true, and-false, or-false, or_assoc, true≢false}
 use mathlib.Core.List.{List}
 use mathlib.Core.Option.{Option, none, some}
 use lib.Dec.{eqb, leb}
@@ -46,7 +46,7 @@ module _ (ts hs : List ℕ) (ws : List Bool) (n : Sizes ts hs ws) where
 
   pub mark_end : {marks : List Bool} {i : ℕ} → Marking (view_lists ts hs ws) marks i → slot_count ≤ i → Marks revoking (view_lists ts hs ws) marks
   mark_end {marks} m h =
-      λ p q. sym (or_false (mark marks p))
+      λ p q. sym (or-false (mark marks p))
       ∙ sym (ap (λ (l : List SlotState). mark marks p || any (revoking p) l) (drop_of_length-le (view_lists ts hs ws) (le_through slots_long h)))
       ∙ m.either p q
 
@@ -77,7 +77,7 @@ module _ (ts hs : List ℕ) (ws : List Bool) (n : Sizes ts hs ws) where
       -- it does, and o is its holder: the place of a member, or none
       module _ (w : get_or ws i false ≡ true) {o : ℕ} (e : o ≡ get_or hs i 0) where
         here : (p : ℕ) → revoking p (get_or (view_lists ts hs ws) i free_slot) ≡ eqb o p
-        here p = slot_is p ∙ ap (λ (x : Bool). eqb (get_or hs i 0) p && x) w ∙ and_true (eqb (get_or hs i 0) p) ∙ ap (λ (x : ℕ). eqb x p) (sym e)
+        here p = slot_is p ∙ ap (λ (x : Bool). eqb (get_or hs i 0) p && x) w ∙ and-true (eqb (get_or hs i 0) p) ∙ ap (λ (x : ℕ). eqb x p) (sym e)
 
         pub mark_one : length marks ≡ max_members → o < max_members → Marking (view_lists ts hs ws) (set marks o true) (i + 1)
         mark_one k q = record {
@@ -104,7 +104,7 @@ silent_is ms tick k h = rw (member_at_lem ms k h) (go (all_zero (cell ms 0 k) (c
   where
     go : (z : Bool) (m : G.Member) → m.heard ≡ cell ms 7 k → (leb session_timeout (elapsed tick (cell ms 7 k)) && not z) ≡ due tick false (if z then none else some m)
     go true m e = and-false (leb session_timeout (elapsed tick (cell ms 7 k)))
-    go false m e = and_true (leb session_timeout (elapsed tick (cell ms 7 k))) ∙ ap (λ (x : ℕ). leb session_timeout (elapsed tick x)) (sym e) ∙ sym (or_false (leb session_timeout (elapsed tick m.heard)))
+    go false m e = and-true (leb session_timeout (elapsed tick (cell ms 7 k))) ∙ ap (λ (x : ℕ). leb session_timeout (elapsed tick x)) (sym e) ∙ sym (or-false (leb session_timeout (elapsed tick m.heard)))
 
 -- the marks of those that are due are those of the places that a sweep removes
 pub due_overdue : (topics : List (Option G.Topic)) (head ms ts hs : List ℕ) (ws : List Bool) (tick : ℕ) (revokes : ℕ → Bool) (marks : List Bool)

@@ -3,7 +3,7 @@ use Prim.Native.Nat.{ℕ, zero, suc, ◌+◌, ◌≤◌, ◌<◌}
 use native.Mathlib.Nat.{le_of_suc-le-suc, not-suc-le-zero}
 use native.Mathlib.Omega.{arith}
 use mathlib.Core.Path.{◌≡◌, refl, sym, ap, ap₂, ◌∙◌}
-use mathlib.Core.Bool.{Bool, true, false, ◌||◌, or_true}
+use mathlib.Core.Bool.{Bool, true, false, ◌||◌, or-true}
 use mathlib.Core.List.{List, [], ◌∷◌, map}
 use native.Mathlib.Numerals.{add-one}
 use lib.ListN.{length, get_or, drop, drop_of_length-le}
@@ -18,7 +18,7 @@ module _ {A : Type 0} (d : A) where
   pub any_on : (f : A → Bool) (l : List A) (i : ℕ) → i < length l → f (get_or l i d) ≡ true → any f l ≡ true
   any_on f [] i h e = absurd (not-suc-le-zero h)
   any_on f (x ∷ l) zero h e = ap (λ (b : Bool). b || any f l) e
-  any_on f (x ∷ l) (suc i) h e = ap (λ (b : Bool). f x || b) (any_on f l i (le_of_suc-le-suc h) e) ∙ or_true (f x)
+  any_on f (x ∷ l) (suc i) h e = ap (λ (b : Bool). f x || b) (any_on f l i (le_of_suc-le-suc h) e) ∙ or-true (f x)
 
   pub map_at : (k : A → A) (l : List A) (i : ℕ) → i < length l → get_or (map k l) i d ≡ k (get_or l i d)
   map_at k [] i h = absurd (not-suc-le-zero h)

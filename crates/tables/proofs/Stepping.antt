@@ -4,7 +4,7 @@ use Prim.Native.Nat.{ℕ, ◌<◌}
 use native.Mathlib.Decide.{dec_lt}
 use native.Mathlib.Omega.{arith}
 use mathlib.Core.Path.{◌≡◌, refl, sym, ap, ap₂, ◌∙◌}
-use mathlib.Core.Bool.{Bool, true, false, not, ◌&&◌, ◌||◌, and-false, or_true, true≢false}
+use mathlib.Core.Bool.{Bool, true, false, not, ◌&&◌, ◌||◌, and-false, or-true, true≢false}
 use mathlib.Core.List.{List, map}
 use mathlib.Core.Option.{Option, none, some}
 use lib.Dec.{eqb}
@@ -152,7 +152,7 @@ module _ (p : ℕ) (vs : List SlotState) (len : length vs ≡ slot_count) (lt : 
     changed_p pq s h d =
         let x : same (set_p p (advanced p vs owned)) (set_p p vs) ≡ false =
         ap₂ same (sym (list_p pq)) (sym (picks_list (revoking p) vs len a.revoking g.revoking_are)) ∙ unlike r.revoking.words a.revoking.words s h d in
-        sym (ap (λ (b : Bool). not (same (set_a p (advanced p vs owned)) (set_a p vs)) || not b) x ∙ or_true (not (same (set_a p (advanced p vs owned)) (set_a p vs))))
+        sym (ap (λ (b : Bool). not (same (set_a p (advanced p vs owned)) (set_a p vs)) || not b) x ∙ or-true (not (same (set_a p (advanced p vs owned)) (set_a p vs))))
 
     changed_none : advanced p vs owned ≡ vs → Changed false
     changed_none z = rw (z, same_refl (set_a p vs), same_refl (set_p p vs))
