@@ -1,0 +1,37 @@
+use Rattle.frames.proofs.Entries.{entry_parts}
+use Rattle.rules.specs.Journal.{entry}
+use Rattle.rules.specs.Records.{number}
+use Rattle.numbers.proofs.Writing.{Writing, begin, to_go₁, same_len, put_one, put_at_lem, room_at, ended, part_over}
+use lib.Seq.{drop-cons, drop-length}
+use native.Mathlib.Numerals.{add-one}
+use mathlib.Core.List.{List, [], ◌∷◌, append-nil}
+use lib.ListN.{length, get_or, drop}
+use Prim.Native.Nat.{ℕ, ◌+◌, ◌-◌, ◌*◌, ◌≤◌, ◌<◌}
+use native.Mathlib.Omega.{arith}
+use mathlib.Core.Path.{◌≡◌, refl, sym, ap, ◌∙◌}
+use borrow.Author.Rules.{rules}
+use Rattle.frames.proofs.framing.put_entry.Goals as goal
+
+abbrev After : ℕ → goal.Start → List ℕ → ℕ → Type 0
+After k c buf at = let a = c.args in Writing (entry a.records.now) a.buf.now buf at (drop k (number a.n ∷ a.records.now ∷ []))
+
+s₀ : (c : goal.Start) → After 0 c c.args.buf.now 0
+s₀ c = begin _ _ _ (entry_parts c.args.records.now c.args.n c.requires.0 c.requires.1) c.requires.2
+
+s₁ : (c : goal.After-put_number_at-at) → After 1 c.before.before.before.before c.put_number_at-at.new.0 c.put_number_at-at.result
+s₁ c = put_at_lem (s₀ c.before.before.before.before) c.put_number_at-at.ensures
+
+s₂ : (c : goal.After-put_bytes_at) → After 2 c.before.before.before.before.before.before.before.before c.put_bytes_at.new.0 c.put_bytes_at.result
+s₂ c = put_at_lem (s₁ c.before.before.before.before) c.put_bytes_at.ensures
+
+pub put_number_at-at-requires : goal.put_number_at-at-requires
+put_number_at-at-requires c = room_at (s₀ c.before.before.before)
+
+pub put_bytes_at-requires : goal.put_bytes_at-requires
+put_bytes_at-requires c = room_at (s₁ c.before.before.before)
+
+pub shape_of-buf : goal.shape_of-buf
+shape_of-buf c = same_len (s₂ c.before.before)
+
+pub returns : goal.returns
+returns c = ended (s₂ c.before.before) refl

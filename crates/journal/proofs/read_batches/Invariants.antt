@@ -1,0 +1,24 @@
+use Prim.Native.Nat.{ℕ, ◌+◌, ◌-◌, ◌≤◌, ◌<◌}
+use native.Mathlib.Omega.{arith}
+use mathlib.Core.Path.{◌≡◌, refl, sym, ap, ◌∙◌}
+use mathlib.Core.List.{List, []}
+use mathlib.Core.Bool.{Bool}
+use lib.ListN.{length}
+use borrow.Author.Rules.{rules}
+use Rattle.frames.specs.declared.Extent.TheVariants as X
+use Rattle.group.specs.declared.Group as Code
+use Rattle.group.specs.View.{view}
+use Rattle.journal.specs.Readings.{reading_as}
+use Rattle.journal.proofs.Going.{batch_bad, batch_good, from, placed, turns}
+use Rattle.journal.proofs.read_batches.Given as goal
+
+-- the group of these parts
+abbrev pub of : List ℕ → List ℕ → List ℕ → List ℕ → List ℕ → List ℕ → List Bool → Code.Group
+of head members ids counts target holder waiting =
+    record { head = head; members = members; topic_ids = ids; topic_counts = counts; target = target; holder = holder; waiting = waiting }
+
+abbrev pub invariant-loop-first : goal.invariant-loop-first
+invariant-loop-first l = from l.tick l.start (view (of l.initial.head l.initial.members l.initial.topic_ids l.initial.topic_counts l.initial.target l.initial.holder l.initial.waiting)) l.bytes ≡ from l.tick l.at (view (of l.head l.members l.topic_ids l.topic_counts l.target l.holder l.waiting)) l.bytes
+
+abbrev pub decreases-loop-first : goal.decreases-loop-first
+decreases-loop-first l = length l.bytes - l.at

@@ -1,0 +1,23 @@
+-- The places before p that are gone are silent.
+use Prim.Native.Nat.{ℕ, ◌-◌, ◌≤◌}
+use native.Mathlib.Omega.{arith}
+use mathlib.Core.Path.{◌≡◌, ap, ◌∙◌}
+use borrow.Author.Rules.{rules}
+use Rattle.rules.specs.Constants.{max_members, session_timeout}
+use Rattle.rules.specs.Group.{elapsed}
+use Rattle.rules.specs.Batches.{session_before, silent}
+use Rattle.group.specs.Columns.{view_members}
+use Rattle.group.proofs.Columns.{members_long}
+use Rattle.judging.proofs.Ticks.{Silenced, none_silenced, marked, unmarked, all_silenced}
+use Rattle.judging.proofs.retiming.silence.Given as goal
+
+-- the tick is the one that the rules have
+pub since : (t s : ℕ) → s ≡ elapsed t session_timeout → s ≡ session_before t
+unfolding elapsed session_before
+since t s e = e
+
+abbrev pub invariant-loop-p : goal.invariant-loop-p
+invariant-loop-p l = (l.p ≤ max_members) × Silenced l.since l.gone (view_members l.initial.members) (view_members l.members) l.p
+
+abbrev pub decreases-loop-p : goal.decreases-loop-p
+decreases-loop-p l = max_members - l.p

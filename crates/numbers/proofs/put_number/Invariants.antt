@@ -1,0 +1,16 @@
+-- `numbers::put_number` meets its contract. The invariant: the bytes of x go to the front of the buffer, `at` of them are there, and those of `rest` are to come.
+-- A turn of the loop writes one byte of them, and the last store the only one that is left.
+use mathlib.Core.Path.{refl}
+use mathlib.Core.List.{[], ◌∷◌, append-nil}
+use native.Mathlib.Omega.{arith}
+use lib.ListN.{length-set}
+use Rattle.rules.specs.Records.{number}
+use Rattle.rules.proofs.Number.{number_small, number_more, number_pos}
+use Rattle.numbers.proofs.Writing.{Writing, begin, to_go₁, same_len, put_one, ended}
+use Rattle.numbers.proofs.put_number.Given as goal
+
+abbrev pub invariant-loop-rest : goal.invariant-loop-rest
+invariant-loop-rest l = Writing (number l.x) l.initial.buf l.buf l.at (number l.rest ∷ [])
+
+abbrev pub decreases-loop-rest : goal.decreases-loop-rest
+decreases-loop-rest l = l.rest

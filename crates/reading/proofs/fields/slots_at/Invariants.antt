@@ -1,0 +1,15 @@
+-- The slots in the set are the front of the list, and the bytes from `next` on say the rest (`Rising`).
+use mathlib.Core.Path.{refl}
+use Prim.Native.Nat.{◌+◌}
+use native.Mathlib.Omega.{arith}
+use lib.ListN.{replicate, get_or-replicate}
+use Rattle.slots.specs.Set.{word_count}
+use Rattle.slots.proofs.Words.{has_none}
+use Rattle.reading.proofs.Rising.{Rising, Right, rising_start, rising_bad, rising_more, rising_ends, slot_wrong, slot_good}
+use Rattle.reading.proofs.fields.slots_at.Given as goal
+
+abbrev pub invariant-loop-left : goal.invariant-loop-left
+invariant-loop-left l = Rising l.s l.at l.n l.words l.low l.from l.next l.left
+
+abbrev pub decreases-loop-left : goal.decreases-loop-left
+decreases-loop-left l = l.left

@@ -1,0 +1,13 @@
+-- The sum of the lengths of its fields, and a byte for the kind. Assumes nothing.
+use mathlib.Core.Path.{◌≡◌}
+use native.Mathlib.Omega.{arith}
+use lib.ListN.{length}
+use borrow.Author.Rules.{rules}
+use Rattle.rules.specs.Constants.{id_length}
+use Rattle.records.specs.Views.{view_topic_metadata}
+use Rattle.records.proofs.Parts.{topic_length}
+use Rattle.records.proofs.kinds.topic_len.Goals as goal
+
+pub returns : goal.returns
+unfolding view_topic_metadata
+returns c = let x = c.args.t in let h : length x.id ≡ id_length = search rules in (omega (arith, topic_length (view_topic_metadata x)), omega arith)

@@ -1,0 +1,17 @@
+-- The word has the places passed, and no others yet (`Gather`).
+use mathlib.Core.Path.{◌≡◌, subst}
+use mathlib.Core.Bool.{◌&&◌, ◌||◌}
+use Prim.Native.Nat.{ℕ, ◌+◌, ◌-◌, ◌%◌, ◌≤◌}
+use native.Mathlib.Omega.{arith}
+use lib.Dec.{eqb}
+use Rattle.slots.specs.Set.{bit}
+use Rattle.slots.proofs.Bits.{bit_zero}
+use Rattle.slots.proofs.Gathering.{Gather, gather_none, gather_more}
+use Rattle.search.specs.Places.{word_places, matches}
+use Rattle.search.proofs.free.free_places.Given as goal
+
+abbrev pub invariant-loop-i : goal.invariant-loop-i
+invariant-loop-i l = (l.i ≤ word_places) × Gather (λ k. matches l.ids 0 0 0 0 (l.from + k)) (bit l.word) l.i
+
+abbrev pub decreases-loop-i : goal.decreases-loop-i
+decreases-loop-i l = word_places - l.i

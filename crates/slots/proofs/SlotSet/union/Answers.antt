@@ -1,0 +1,31 @@
+use mathlib.Core.Path.{◌≡◌, refl}
+use mathlib.Core.Bool.{◌||◌}
+use Prim.Native.Nat.{◌-◌, ◌≤◌}
+use native.Mathlib.Omega.{arith}
+use lib.ListN.{length, get_or}
+use mir.Syntax.{w64}
+use mir.Val.{Fits}
+use lib.Bits.{bit_or}
+use Rattle.slots.proofs.Bits.{bit_or_lem}
+use Rattle.slots.proofs.Each.{Each, each_none, each_more}
+use Rattle.slots.proofs.Words.{wordwise}
+use borrow.Author.Rules.{rules}
+use Rattle.slots.specs.Set.{word_count}
+use Rattle.slots.proofs.SlotSet.union.Goals as goal
+
+pub loop-i-init : goal.loop-i-init
+loop-i-init c = (search rules, each_none _ _)
+
+pub loop-i-preserved : goal.loop-i-preserved
+loop-i-preserved c = let l = c.loop-i in
+    let n : length c.args.self.words ≡ word_count = search rules in
+    (omega arith, each_more _ l.invariant.1 (omega (arith, l.invariant.1.len)) refl)
+
+pub returns : goal.returns
+returns c =
+    let l = c.loop-i in
+    let a = c.args in
+    let na : length a.self.words ≡ word_count = search rules in
+    let nb : length a.other.words ≡ word_count = search rules in
+    wordwise bit_or ◌||◌ refl (λ x y i _ _. bit_or_lem x y i) a.self.words a.other.words l.r.words na nb
+    (λ k. let f : Fits w64 (get_or a.other.words k 0) = search rules in f.fits) l.i (omega arith) l.invariant.1

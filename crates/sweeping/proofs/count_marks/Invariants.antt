@@ -1,0 +1,16 @@
+-- The count and the marked places from i on make up all that are marked.
+use Prim.Native.Nat.{◌+◌, ◌-◌, ◌≤◌}
+use native.Mathlib.Nat.{zero-add}
+use native.Mathlib.Omega.{arith}
+use mathlib.Core.Path.{◌≡◌, ap}
+use lib.ListN.{length}
+use Rattle.rules.specs.Constants.{max_members}
+use Rattle.events.proofs.Places.{picked_from, picked_in, picked_out, picked_end}
+use Rattle.sweeping.specs.Marks.{mark, marked}
+use Rattle.sweeping.proofs.count_marks.Given as goal
+
+abbrev pub invariant-loop-i : goal.invariant-loop-i
+invariant-loop-i l = (l.i ≤ max_members) × (l.n ≤ l.i) × (l.n + length (picked_from (mark l.gone) l.i) ≡ length (marked l.gone))
+
+abbrev pub decreases-loop-i : goal.decreases-loop-i
+decreases-loop-i l = max_members - l.i

@@ -1,0 +1,50 @@
+use mathlib.Core.Path.{◌≡◌, refl, sym, ap, ◌∙◌}
+use mathlib.Core.List.{List}
+use Prim.Native.Nat.{◌-◌, ◌≤◌}
+use native.Mathlib.Omega.{arith}
+use lib.ListN.{length, length-set, set}
+use Rattle.rules.specs.Constants.{slot_count}
+use Rattle.rules.specs.Group.{SlotState, free_slot}
+use Rattle.tables.specs.View.{view_lists, Sizes}
+use Rattle.tables.specs.Changes.{view_entry, moved_by}
+use Rattle.tables.proofs.Viewing.{view_slots, view_slot, view_set}
+use Rattle.tables.proofs.Replacing.{part, part_all, part_more}
+use Rattle.tables.proofs.changing.move_slots.Goals as goal
+
+-- the slots that the tables stand for at first, and the change of each
+abbrev slots : goal.Start invariant-loop decreases-loop → List SlotState
+slots c = let a = c.args in view_lists a.target.now a.holder.now a.waiting.now
+
+abbrev change : goal.Start invariant-loop decreases-loop → SlotState → SlotState
+change c = moved_by c.args.frees c.args.revokes c.args.p.0
+
+slots_length : (c : goal.After-sized invariant-loop decreases-loop) → length (slots c.before.before.before.before) ≡ slot_count
+slots_length c =
+    let a = c.args in
+    let n = c.sized.ensures in
+    view_slots a.target.now a.holder.now a.waiting.now n.0 n.1 n.2
+
+pub loop-i-init : goal.loop-i-init
+loop-i-init c = (omega arith, refl, c.sized.ensures)
+
+pub loop-i-preserved : goal.loop-i-preserved
+loop-i-preserved c =
+    let x = c.before.before.before.before.before.before.before.before.before.before in
+    let l = c.loop-i in
+    let k = c.move_one-r in
+    let r = view_entry k.result in
+    let q = k.ensures ∙ ap (change x) (sym (view_slot l.target l.holder l.waiting l.invariant.2.0 l.invariant.2.1 l.invariant.2.2 l.i (omega arith) free_slot)) in
+    let nt : length (set l.target l.i r.target) ≡ slot_count = simp length-set l.invariant.2.0 in
+    let nh : length (set l.holder l.i r.holder) ≡ slot_count = simp length-set l.invariant.2.1 in
+    let nw : length (set l.waiting l.i r.waiting) ≡ slot_count = simp length-set l.invariant.2.2 in (
+      omega arith,
+      view_set l.target l.holder l.waiting l.i r
+          ∙ part_more (change x) (slots x) (view_lists l.target l.holder l.waiting) l.i r free_slot l.invariant.1 (omega (arith, slots_length c.before.before.before.before.before.before)) q,
+      (nt, nh, nw),
+    )
+
+pub returns : goal.returns
+returns c =
+    let x = c.before.before.before.before.before.before in
+    let l = c.loop-i in
+    l.invariant.1 ∙ part_all (change x) l.i (slots x) (omega (arith, slots_length c.before.before))

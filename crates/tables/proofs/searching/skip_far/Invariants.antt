@@ -1,0 +1,14 @@
+-- None of the slots passed is near p, eight at a time.
+use Rattle.rules.specs.Constants.{slot_count}
+use native.Mathlib.Omega.{arith}
+use Prim.Native.Nat.{◌+◌, ◌-◌, ◌≤◌}
+use lib.ListN.{get_or}
+use Rattle.tables.specs.Places.{near, NoneNear}
+use Rattle.slots.proofs.Next.{none_join}
+use Rattle.tables.proofs.searching.skip_far.Given as goal
+
+abbrev pub invariant-loop-i : goal.invariant-loop-i
+invariant-loop-i l = (l.from ≤ l.i) × (l.i ≤ slot_count) × NoneNear l.p.0 l.target l.holder l.from l.i
+
+abbrev pub decreases-loop-i : goal.decreases-loop-i
+decreases-loop-i l = slot_count - l.i

@@ -1,0 +1,17 @@
+-- What was found, or what is left, decides (`Seen`).
+use mathlib.Core.Path.{◌≡◌, refl, ap, ◌∙◌}
+use mathlib.Core.Bool.{Bool}
+use Prim.Native.Nat.{◌-◌, ◌≤◌}
+use native.Mathlib.Omega.{arith}
+use lib.ListN.{length}
+use borrow.Author.Rules.{rules}
+use Rattle.rules.specs.Constants.{slot_count}
+use Rattle.tables.specs.Places.{is_place}
+use Rattle.tables.proofs.Lists.{Seen, seen_more, seen_all}
+use Rattle.tables.proofs.testing.names.Given as goal
+
+abbrev pub invariant-loop-i : goal.invariant-loop-i
+invariant-loop-i l = (l.i ≤ slot_count) × Seen 0 (is_place l.p.0) l.entries l.found l.i
+
+abbrev pub decreases-loop-i : goal.decreases-loop-i
+decreases-loop-i l = slot_count - l.i
