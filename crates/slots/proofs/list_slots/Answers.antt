@@ -11,13 +11,8 @@ use Rattle.numbers.proofs.Writing.{Writing, begin, to_go₁, same_len, put_one, 
 use Rattle.slots.proofs.Selecting.{select_in, next_ahead, next_skips}
 use Rattle.slots.proofs.list_slots.Goals as goal
 
-abbrev Hit : goal.At-loop-s invariant-loop decreases-loop → Type 0
-Hit c =
-    let l = c.loop-s in
-    let a = c.args in
-    Writing (slots_of a.a.words) a.out.now l.out l.at ((l.s.slot ∷ select (has a.a.words) (l.s.slot + 1) (slot_count - (l.s.slot + 1))) ∷ [])
-
-hit : (c : goal.In-loop-s invariant-loop decreases-loop) → Hit c.before.before
+hit : (c : goal.In-loop-s) → let l = c.loop-s in let ws = c.args.a.words in
+    Writing (slots_of ws) c.args.out.now l.out l.at ((l.s.slot ∷ select (has ws) (l.s.slot + 1) (slot_count - (l.s.slot + 1))) ∷ [])
 hit c =
     let l = c.loop-s in
     rw (select_in _ l.s.slot slot_count (omega arith) (l.invariant.1 (omega arith))) at l.invariant.3

@@ -11,25 +11,20 @@ use Rattle.rules.specs.Constants.{slot_count}
 use Rattle.slots.proofs.Steps.{left_next, none_left, step_within, steps_end, steps_join}
 use Rattle.slots.proofs.SlotSet.after.Goals as goal
 
--- the slot is one
-slot_lt : (c : goal.Else-s-ge-SLOT_END) → c.args.s.slot < slot_count
-slot_lt c = omega arith
-
 pub returns-then-s-ge-SLOT_END : goal.returns-then-s-ge-SLOT_END
 returns-then-s-ge-SLOT_END c given = steps_end c.args.self.words _ _ refl (λ x p q. absurd (omega arith))
 
 pub overflow_add-s : goal.overflow_add-s
-overflow_add-s c = omega (arith, slot_lt c.before.before.before)
+overflow_add-s c = let low : c.args.s.slot < slot_count = omega arith in omega arith
 
 pub step_in-requires : goal.step_in-requires
-step_in-requires c = (omega (arith, slot_lt c.before.before.before), omega (arith, c.if-s-ne0.true))
+step_in-requires c = let low : c.args.s.slot < slot_count = omega arith in (omega arith, omega (arith, c.if-s-ne0.true))
 
 pub returns-then-s-ne0 : goal.returns-then-s-ne0
 returns-then-s-ne0 c given =
-    let k = c.before.before.before.before.before.before in
-    let low = slot_lt c.before.before.before.before in
-    let ws = k.args.self.words in
-    let s = k.args.s in
+    let ws = c.args.self.words in
+    let s = c.args.s in
+    let low : s.slot < slot_count = omega arith in
     let f : Fits w64 (get_or ws (s.slot / 64) 0) = search rules in
     let e = given low in
     let n = left_next ws s.slot f.fits (omega (arith, e, c.if-s-ne0.true)) in
@@ -41,10 +36,9 @@ returns-then-s-ne0 c given =
 
 pub returns : goal.returns
 returns c given =
-    let k = c.before.before.before.before.before.before in
-    let low = slot_lt c.before.before.before.before in
-    let ws = k.args.self.words in
-    let s = k.args.s in
+    let ws = c.args.self.words in
+    let s = c.args.s in
+    let low : s.slot < slot_count = omega arith in
     let f : Fits w64 (get_or ws (s.slot / 64) 0) = search rules in
     steps_join ws (s.slot + 1) ((s.slot / 64 + 1) * 64) c.step_from.result (omega arith)
     (none_left ws s.slot f.fits (sym (given low) ∙ c.if-s-ne0.false)) c.step_from.ensures
