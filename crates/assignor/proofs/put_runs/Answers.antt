@@ -9,14 +9,15 @@ use Rattle.rules.specs.Assignor.{runs, share}
 use Rattle.ranges.proofs.Runs.{runs_most}
 use Rattle.numbers.proofs.Writing.{Writing, begin, cut, put_at_lem, room_at, same_len, ended}
 use Rattle.assignor.proofs.Listing.{runs_end, runs_next}
+use Rattle.assignor.proofs.put_runs.Goals.{Start}
 use Rattle.assignor.proofs.put_runs.Goals as goal
 
-start : (c : goal.Start invariant-loop decreases-loop) → let a = c.args in let ps = a.subscribers.now in
+start : (c : Start) → let a = c.args in let ps = a.subscribers.now in
     Writing (runs a.n (length ps) 0 ps) a.out.now a.out.now 0 (runs a.n (length ps) 0 ps ∷ [])
 start c = let a = c.args in begin _ _ _ (append-nil _) (omega (arith, runs_most a.n a.subscribers.now, c.requires.1))
 
 -- the next subscriber's run comes next
-abbrev Turn : goal.In-loop-i invariant-loop decreases-loop → Type 0
+abbrev Turn : Start → Type 0
 Turn c =
     let l = c.loop-i in
     let a = c.args in
@@ -24,7 +25,7 @@ Turn c =
     Writing (runs a.n (length ps) 0 ps) a.out.now l.out l.at
     (replicate (share a.n (length ps) l.i) (get_or ps l.i 0) ∷ runs a.n (length ps) (l.i + 1) (drop (l.i + 1) ps) ∷ [])
 
-turn : (c : goal.In-loop-i invariant-loop decreases-loop) → Turn c
+turn : (c : Start) → Turn c
 turn c =
     let l = c.loop-i in
     let a = c.args in
@@ -33,23 +34,23 @@ turn c =
 
 pub returns-then-k-eq0 : goal.returns-then-k-eq0
 returns-then-k-eq0 c =
-    let s = c.before.before.before in
+    let s = c.before.before.before.before in
     let a = s.args in
     let ps = a.subscribers.now in
     ended (start s) (append-nil _ ∙ runs_end a.n (length ps) ps 0 (omega (arith, c.if-k-eq0.true)))
 
 pub loop-i-init : goal.loop-i-init
-loop-i-init c = (omega arith, start c.before.before.before)
+loop-i-init c = (omega arith, start c.before.before.before.before)
 
 pub share_of-size-requires : goal.share_of-size-requires
 share_of-size-requires c =
-    let s = c.before.before.before.before.before.before in
+    let s = c in
     omega (arith, div-le_self s.args.n (length s.args.subscribers.now), s.requires.0)
 
 pub put_times_at-at-requires : goal.put_times_at-at-requires
 unfolding share
 put_times_at-at-requires c =
-    let t = c.before.before.before in
+    let t = c.before.before.before.before.before.before.before.before.before in
     let a = t.args in
     let ps = a.subscribers.now in
     let l = t.loop-i in
@@ -58,7 +59,7 @@ put_times_at-at-requires c =
 pub loop-i-preserved : goal.loop-i-preserved
 unfolding share
 loop-i-preserved c =
-    let t = c.before.before.before.before.before.before in
+    let t = c.before.before.before.before.before.before.before.before.before.before.before.before in
     (omega arith, put_at_lem (turn t) (rw c.share_of-size.ensures at c.put_times_at-at.ensures))
 
 pub shape_of-out : goal.shape_of-out

@@ -4,16 +4,17 @@ use mathlib.Core.Path.{◌≡◌, ap, ◌∙◌}
 use mathlib.Core.List.{[], ◌∷◌, append-nil}
 use lib.ListN.{replicate, length-replicate}
 use Rattle.numbers.proofs.Writing.{Writing, begin, put_one, to_go, same_len, ended}
+use Rattle.assignor.proofs.put_times.Goals.{In-loop-at}
 use Rattle.assignor.proofs.put_times.Goals as goal
 
 -- one more is to come
-abbrev Turn : goal.In-loop-at invariant-loop decreases-loop → Type 0
+abbrev Turn : In-loop-at → Type 0
 Turn c =
     let l = c.loop-at in
     let a = c.args in
     Writing (replicate a.count a.entry) a.out.now l.out l.at ((a.entry ∷ replicate (a.count - (l.at + 1)) a.entry) ∷ [])
 
-turn : (c : goal.In-loop-at invariant-loop decreases-loop) → Turn c
+turn : (c : In-loop-at) → Turn c
 turn c =
     let l = c.loop-at in
     let a = c.args in

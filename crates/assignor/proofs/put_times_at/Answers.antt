@@ -7,7 +7,7 @@ use Rattle.assignor.proofs.put_times_at.Goals as goal
 
 pub overflow_add-result : goal.overflow_add-result
 overflow_add-result c =
-    let s = c.before.before.before.before.before in
+    let s = c in
     omega (arith, c.put_times.ensures.count, length-replicate s.args.count s.args.entry, s.requires)
 
 pub returns : goal.returns

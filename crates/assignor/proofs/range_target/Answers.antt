@@ -14,8 +14,8 @@ put_topics-requires c = (rw c.sorted-order.ensures (sorted_places _ 0 max_member
 
 pub returns : goal.returns
 returns c =
-    let second = c.before.before.before.before.before.before.before.before in
-    let first = second.before in
+    let second = c in
+    let first = second in
     let a = first.args in
     let n : length a.counts.now ≡ topic_count = search rules in
     λ g ids topics members.

@@ -17,7 +17,7 @@ returns-then-p-lt-PLACE_END c =
 pub returns-then-p-lt-PLACE_END-2 : goal.returns-then-p-lt-PLACE_END-2
 unfolding placed places_of parts_of
 returns-then-p-lt-PLACE_END-2 c =
-    let x = c.before.before.before in
+    let x = c in
     let is = view_kind_lem x.args.read _ x.kind-in-MemberGone-1.given.1 in
     taken _ _ is (there _ c.if-p-lt-PLACE_END-2.true) (c.with_gone.ensures _)
     (marks_some x.kind-in-MemberGone-1.given.0.0 (omega (arith, x.sized.ensures.0))) refl
@@ -25,7 +25,7 @@ returns-then-p-lt-PLACE_END-2 c =
 pub returns-then-p-lt-PLACE_END-3 : goal.returns-then-p-lt-PLACE_END-3
 unfolding placed places_of parts_of laid_over
 returns-then-p-lt-PLACE_END-3 c =
-    let x = c.before.before.before.before.before in
+    let x = c in
     let is = view_kind_lem x.args.read _ x.kind-in-TargetIs-1.given.1 in
     taken _ _ is (there _ c.if-p-lt-PLACE_END-3.true) (adds_target _ _) marks_none c.lay.ensures
 

@@ -10,7 +10,7 @@ use Rattle.coordinator.proofs.install.Goals as goal
 
 pub returns : goal.returns
 returns c = λ l.
-    let s = c.before.before.before.before.before.before.before.before in
+    let s = c in
     let a = s.args in
     let o = c.install.ensures l in
     (o.0, λ rest. o.1 rest ∙ ap (λ (z : ℤ). step (view_target_parts rest (record { head = a.head.now; members = a.members.now; counts = a.topic_counts.now; target = a.target.now })) (install with_rule z a.entries.now) a.records.now l) (to_z-of_z s.ranges.epoch))

@@ -22,10 +22,10 @@ bounds-target-i c = omega (arith, c.loop-i.invariant.1.size, c.requires)
 
 pub loop-i-preserved : goal.loop-i-preserved
 loop-i-preserved c =
-    let x = c.before.before.before.before.before in
+    let x = c in
     (omega arith, fill_next itself x.args.entries.now c.loop-i.invariant.1 0 refl (omega (arith, x.requires)))
 
 pub returns : goal.returns
 returns c =
-    let x = c.before.before.before.before in
+    let x = c in
     fill_end itself x.args.entries.now c.loop-i.invariant.1 (omega (arith, x.requires)) ∙ map-id _

@@ -21,30 +21,31 @@ use Rattle.group.proofs.Rows.{raised_below}
 use Rattle.events.proofs.Carrying.{same_refused}
 use Rattle.joining.specs.Joining.{Ready, metadata_in}
 use Rattle.joining.proofs.JoinRows.{join_no_room, join_done}
+use Rattle.joining.proofs.join_at.Goals.{Start}
 use Rattle.joining.proofs.join_at.Goals as goal
 
 -- the parts at entry
-abbrev had : goal.Start → Parts
+abbrev had : Start → Parts
 had s = let a = s.args in parts a.head.now a.members.now a.target.now a.holder.now a.waiting.now
 
 -- ---- what went into the records
 
-epoch_is : (c : goal.After-raised_epoch-epoch) → leb last_epoch (get_or (had c.before.before.before.before.before.before.before.before.before).head 0 0) ≡ false → c.raised_epoch-epoch.result ≡ suc (get_or (had c.before.before.before.before.before.before.before.before.before).head 0 0)
+epoch_is : (c : Start) → leb last_epoch (get_or (had c).head 0 0) ≡ false → c.raised_epoch-epoch.result ≡ suc (get_or (had c).head 0 0)
 epoch_is c h = c.raised_epoch-epoch.ensures ∙ raised_below _ h
 
-aimed-is : (c : goal.After-has_target-aimed) → let g = had c.before.before.before.before.before.before.before.before.before.before.before.before in c.has_target-aimed.result ≡ any (targeted c.args.p.0) (view_lists g.target g.holder g.waiting)
+aimed-is : (c : Start) → let g = had c in c.has_target-aimed.result ≡ any (targeted c.args.p.0) (view_lists g.target g.holder g.waiting)
 aimed-is c = let w = c.whole.ensures in c.has_target-aimed.ensures _ _ (w.target_long, w.holder_long, w.waiting_long)
 
-retargets-is : (c : goal.After-both-retargets) → let s = c.before.before.before.before.before.before.before.before.before.before.before.before.before in let g = had s in c.both-retargets.result ≡ (s.args.known && any (targeted s.args.p.0) (view_lists g.target g.holder g.waiting))
-retargets-is c = c.both-retargets.ensures ∙ ap (λ (x : Bool). c.args.known && x) (aimed-is c.before)
+retargets-is : (c : Start) → let s = c in let g = had s in c.both-retargets.result ≡ (s.args.known && any (targeted s.args.p.0) (view_lists g.target g.holder g.waiting))
+retargets-is c = c.both-retargets.ensures ∙ ap (λ (x : Bool). c.args.known && x) (aimed-is c)
 
 -- ---- the seat
 
-seat_is : (c : goal.After-seat_of-seat) → let s = c.before.before.before.before.before.before.before.before.before.before.before.before.before.before.before.before.before.before.before.before.before in let m = c.metadata_of-metadata.result in Ready (had s) s.args.p.0 s.args.known s.args.b.id
+seat_is : (c : Start) → let s = c in let m = c.metadata_of-metadata.result in Ready (had s) s.args.p.0 s.args.known s.args.b.id
     → c.seat_of-seat.result ≡ joined_as m.id c.raised_epoch-epoch.result m.subscription m.timeout s.args.b.tick
 seat_is c ready = c.seat_of-seat.ensures (λ k. subst (λ (x : MemberMetadata). (seat_at c.args.members.now x.place.0).id ≡ x.id) (sym c.metadata_of-metadata.ensures) (ready.own k))
 
-named : (c : goal.After-seat_of-seat) → let s = c.before.before.before.before.before.before.before.before.before.before.before.before.before.before.before.before.before.before.before.before.before in Ready (had s) s.args.p.0 s.args.known s.args.b.id → zero_id c.seat_of-seat.result.id ≡ false
+named : (c : Start) → let s = c in Ready (had s) s.args.p.0 s.args.known s.args.b.id → zero_id c.seat_of-seat.result.id ≡ false
 named c ready = ap zero_id (ap (λ (x : Seat). x.id) (seat_is c ready) ∙ ap (λ (m : MemberMetadata). m.id) c.metadata_of-metadata.ensures) ∙ ready.named
 
 -- ---- the needs
@@ -54,14 +55,14 @@ bounds-head-0 c = omega (arith, c.whole.ensures.head_long)
 
 pub returns-then-records-size : goal.returns-then-records-size
 returns-then-records-size c =
-    let s = c.before.before.before.before.before.before.before.before.before.before.before.before.before.before.before.before in
+    let s = c.before.before.before.before.before.before.before.before.before.before.before.before in
     let a = s.args in
     let e = c.refused.ensures in
     λ owned l ready. (
       same_refused e (had s),
       λ ts.
           join_no_room ts (had s) a.p a.known a.b owned
-          (epoch_is c.before.before.before.before.before.before.before ready.rises) c.metadata_of-metadata.ensures (retargets-is c.before.before.before) a.records.now l
+          (epoch_is c.before.before.before.before.before.before.before.before.before.before.before.before ready.rises) c.metadata_of-metadata.ensures (retargets-is c.before.before.before.before.before.before.before.before.before.before.before.before) a.records.now l
           (omega (arith, c.join_records_len-size.ensures.0, c.if-records-size.true)) e,
     )
 
@@ -73,7 +74,7 @@ bounds-head-0-2 c = omega (arith, c.whole.ensures.head_long)
 
 pub returns : goal.returns
 returns c =
-    let s = c.before.before.before.before.before.before.before.before.before.before.before.before.before.before.before.before.before.before.before.before.before.before.before.before.before.before.before in
+    let s = c.before.before.before.before.before.before.before.before.before.before.before.before.before.before.before.before.before.before.before.before.before.before in
     let a = s.args in
     let t = c.vacate.new in
     let after = parts (set (set a.head.now 0 c.raised_epoch-epoch.result) 2 a.b.tick) c.put.new.0 t.0 t.1.0 t.1.1.0 in
@@ -81,7 +82,7 @@ returns c =
       tt,
       λ ts.
           join_done ts (had s) a.p a.known a.b owned
-          (epoch_is c.before.before.before.before.before.before.before.before.before.before.before.before.before.before.before.before.before.before ready.rises) c.metadata_of-metadata.ensures (retargets-is c.before.before.before.before.before.before.before.before.before.before.before.before.before.before) a.records.now l after
-          (omega (arith, c.join_records_len-size.ensures.0, c.if-records-size.false)) (seat_is c.before.before.before.before.before.before ready) c.whole.ensures.head_long refl
-          (c.put.ensures (named c.before.before.before.before.before.before ready)) (c.vacate.ensures (aimed-is c.before.before.before.before.before.before.before.before.before.before.before.before.before.before.before)) c.put_join_records-written.ensures,
+          (epoch_is c.before.before.before.before.before.before.before.before.before.before.before.before.before.before.before.before.before.before.before.before.before.before ready.rises) c.metadata_of-metadata.ensures (retargets-is c.before.before.before.before.before.before.before.before.before.before.before.before.before.before.before.before.before.before.before.before.before.before) a.records.now l after
+          (omega (arith, c.join_records_len-size.ensures.0, c.if-records-size.false)) (seat_is c.before.before.before.before.before.before.before.before.before.before.before.before.before.before.before.before.before.before.before.before.before.before ready) c.whole.ensures.head_long refl
+          (c.put.ensures (named c.before.before.before.before.before.before.before.before.before.before.before.before.before.before.before.before.before.before.before.before.before.before ready)) (c.vacate.ensures (aimed-is c.before.before.before.before.before.before.before.before.before.before.before.before.before.before.before.before.before.before.before.before.before.before)) c.put_join_records-written.ensures,
     )

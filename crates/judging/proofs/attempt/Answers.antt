@@ -4,10 +4,11 @@ use mathlib.Core.Bool.{true≢false}
 use borrow.Author.Rules.{rules}
 use Rattle.group.specs.declared.Group.{Group}
 use Rattle.judging.proofs.Candidates.{was_good, was_bad}
+use Rattle.judging.proofs.attempt.Goals.{Start}
 use Rattle.judging.proofs.attempt.Goals as goal
 
 -- the group as it was lent
-abbrev lent : goal.Start → Group
+abbrev lent : Start → Group
 lent c = let a = c.args in record {
   head = a.head.now;
   members = a.members.now;
@@ -20,11 +21,11 @@ lent c = let a = c.args in record {
 
 pub returns-then-is_batch : goal.returns-then-is_batch
 returns-then-is_batch c =
-    let c4 = c.before.before.before.before in
-    let c14 = c4.before.before.before.before.before.before.before.before.before.before in
-    let c17 = c14.before.before.before in
-    let c23 = c17.before.before.before.before.before.before in
-    let c34 = c23.before.before.before.before.before.before.before.before.before.before.before in
+    let c4 = c in
+    let c14 = c4 in
+    let c17 = c14 in
+    let c23 = c17 in
+    let c34 = c23.before.before.before.before.before.before.before.before.before.before.before.before.before.before.before.before.before.before.before.before.before.before.before.before.before.before.before.before in
     let n = c14.room.ensures in
     record {
       judges =
@@ -36,11 +37,11 @@ returns-then-is_batch c =
 
 pub returns : goal.returns
 returns c =
-    let c4 = c.before.before.before.before in
-    let c14 = c4.before.before.before.before.before.before.before.before.before.before in
-    let c17 = c14.before.before.before in
-    let c23 = c17.before.before.before.before.before.before in
-    let c34 = c23.before.before.before.before.before.before.before.before.before.before.before in
+    let c4 = c in
+    let c14 = c4 in
+    let c17 = c14 in
+    let c23 = c17 in
+    let c34 = c23.before.before.before.before.before.before.before.before.before.before.before.before.before.before.before.before.before.before.before.before.before.before.before.before.before.before.before.before in
     let n = c14.room.ensures in
     record {
       judges =

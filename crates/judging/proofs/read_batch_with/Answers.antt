@@ -17,15 +17,15 @@ returns-then-batch-gt-BATCH_LIMIT c = record { reads = too_long _ _ _ c.if-batch
 pub returns-then-not-said : goal.returns-then-not-said
 unfolding good_as
 returns-then-not-said c =
-    let c6 = c.before.before.before.before.before.before in
+    let c6 = c in
     record { reads = none_read _ _ _ c6.if-batch-gt-BATCH_LIMIT.false (c.gather-said.ensures.refuses (not-true _ c.if-not-said.true)); keeps = λ e. refl }
 
 pub returns : goal.returns
 returns c =
-    let c12 = c.before.before.before.before.before.before.before.before.before.before.before.before in
-    let c14 = c12.before.before in
-    let c18 = c14.before.before.before.before in
-    let c19 = c18.before in
+    let c12 = c in
+    let c14 = c12 in
+    let c18 = c14 in
+    let c19 = c18 in
     let short = c18.if-batch-gt-BATCH_LIMIT.false in
     let s = c14.gather-said.ensures.says (not-false _ c12.if-not-said.false) in
     let r = c.attempt.ensures in

@@ -14,17 +14,18 @@ use Rattle.events.specs.declared.Outcome.{Outcome}
 use Rattle.events.proofs.Carrying.{same_refused}
 use Rattle.events.proofs.Storing.{too_long, stored}
 use Rattle.leaving.proofs.LeaveRows.{leave_records_lem, leave_group}
+use Rattle.leaving.proofs.leave_at.Goals.{Start}
 use Rattle.leaving.proofs.leave_at.Goals as goal
 
 -- the parts at entry
-abbrev had : goal.Start → Parts
+abbrev had : Start → Parts
 had s = let a = s.args in parts a.head.now a.members.now a.target.now a.holder.now a.waiting.now
 
-abbrev start : goal.After-leave_records_len-size → goal.Start
+abbrev start : Start → Start
 start c = c.before.before.before.before.before.before.before.before.before.before.before.before.before
 
 -- the records are those of the effect
-recorded : (c : goal.After-leave_records_len-size) (ts : List (Option Topic))
+recorded : (c : Start) (ts : List (Option Topic))
     → leave_records (start c).args.p.0 c.has_target-retargets.result (not c.at_end_lem.result) c.raised_epoch-epoch.result
     ≡ (leave_at (view_parts ts (had (start c))) (start c).args.p.0 (start c).args.tick).records
 recorded c ts =
@@ -38,12 +39,12 @@ bounds-head-0 c = omega (arith, c.whole.ensures.head_long)
 
 pub returns-then-records-size : goal.returns-then-records-size
 returns-then-records-size c =
-    let s = c.before.before.before.before.before.before.before.before.before.before.before.before.before.before.before in
+    let s = c.before.before.before.before.before.before.before.before.before.before.before in
     let a = s.args in
     let e = c.refused.ensures in
     λ l. (
       same_refused e (had s),
-      λ ts. too_long (leave_at (view_parts ts (had s)) a.p.0 a.tick) (recorded c.before.before ts) a.records.now l (view_parts ts (had s))
+      λ ts. too_long (leave_at (view_parts ts (had s)) a.p.0 a.tick) (recorded c.before.before.before.before.before.before.before.before.before.before.before ts) a.records.now l (view_parts ts (had s))
           (omega (arith, c.leave_records_len-size.ensures.0, c.if-records-size.true)) e,
     )
 
@@ -56,7 +57,7 @@ bounds-head-0-2 c = omega (arith, c.whole.ensures.head_long)
 pub returns : goal.returns
 unfolding leave_at
 returns c =
-    let s = c.before.before.before.before.before.before.before.before.before.before.before.before.before.before.before.before.before.before.before.before.before.before.before.before in
+    let s = c.before.before.before.before.before.before.before.before.before.before.before.before.before.before.before.before.before.before.before.before in
     let a = s.args in
     let put = c.put_leave_records-written in
     let r : Outcome = record { answer = Left; written = put.result } in
@@ -64,7 +65,7 @@ returns c =
     let after = parts (set (set a.head.now 0 c.raised_epoch-epoch.result) 2 a.tick) c.vacate.new.0 t.0 t.1.0 t.1.1.0 in
     λ l. (
       tt,
-      λ ts. stored (leave_at (view_parts ts (had s)) a.p.0 a.tick) (recorded c.before.before.before.before.before.before.before.before.before.before.before ts) a.records.now l (view_parts ts (had s)) r (view_parts ts after) refl
+      λ ts. stored (leave_at (view_parts ts (had s)) a.p.0 a.tick) (recorded c.before.before.before.before.before.before.before.before.before.before.before.before.before.before.before.before.before.before.before.before ts) a.records.now l (view_parts ts (had s)) r (view_parts ts after) refl
           (omega (arith, c.leave_records_len-size.ensures.0, c.if-records-size.false)) refl
           (leave_group ts (had s) a.p.0 a.tick c.raised_epoch-epoch.ensures after c.whole.ensures.head_long refl c.vacate.ensures.members c.vacate-2.ensures)
           put.ensures,

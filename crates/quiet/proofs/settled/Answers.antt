@@ -15,7 +15,7 @@ loop-i-init c = (omega arith, λ z k q. absurd (omega arith))
 
 pub overflow_cast-k : goal.overflow_cast-k
 overflow_cast-k c =
-    let s = c.before.before.before.before in
+    let s = c in
     let e = slot_below s.args.list.now s.requires c.loop-i.i (omega arith) in
     omega (arith, e)
 

@@ -7,16 +7,17 @@ use Rattle.rules.specs.Records.{all_bytes}
 use Rattle.numbers.proofs.Writing.{Writing, begin, cut, to_go₁, same_len, in_range_lem, room, put_at_lem, part_over, ended}
 use Rattle.events.proofs.Places.{picked_from, picked_in, picked_out, picked_end, bytes_at, bytes_next, bytes_end}
 use Rattle.sweeping.specs.Marks.{mark, marked, gone_at, marked_records}
+use Rattle.sweeping.proofs.put_marked.Goals.{In-loop-i}
 use Rattle.sweeping.proofs.put_marked.Goals as goal
 
-abbrev Coming : (c : goal.Then-gone-p invariant-loop decreases-loop) → Type 0
+abbrev Coming : (c : In-loop-i) → Type 0
 Coming c =
     let l = c.loop-i in
     let a = c.args in
     Writing (all_bytes (marked_records a.gone.now a.targets.now)) a.buf.now l.buf l.at
     (all_bytes (gone_at a.targets.now l.i) ∷ bytes_at (gone_at a.targets.now) (picked_from (mark a.gone.now) (l.i + 1)) ∷ [])
 
-coming : (c : goal.Then-gone-p invariant-loop decreases-loop) → Coming c
+coming : (c : In-loop-i) → Coming c
 coming c =
     let l = c.loop-i in
     let a = c.args in
@@ -27,19 +28,19 @@ unfolding marked_records marked
 loop-i-init c = (omega arith, begin _ _ _ (append-nil _) c.requires)
 
 pub slice_bounds-put_gone_records-count : goal.slice_bounds-put_gone_records-count
-slice_bounds-put_gone_records-count c = omega (arith, in_range_lem (coming c))
+slice_bounds-put_gone_records-count c = omega (arith, in_range_lem (coming c.before.before.before.before))
 
 pub slice_bounds-put_gone_records-start : goal.slice_bounds-put_gone_records-start
-slice_bounds-put_gone_records-start c = omega (arith, in_range_lem (coming c))
+slice_bounds-put_gone_records-start c = omega (arith, in_range_lem (coming c.before.before.before.before))
 
 pub put_gone_records-at-requires : goal.put_gone_records-at-requires
-put_gone_records-at-requires c = room (coming c.before.before)
+put_gone_records-at-requires c = room (coming c.before.before.before.before.before.before.before)
 
 pub overflow_add-at : goal.overflow_add-at
-overflow_add-at c = let s = coming c.before.before.before.before.before in omega (arith, to_go₁ s, s.fits, c.put_gone_records-at.ensures.count)
+overflow_add-at c = let s = coming c.before.before.before.before.before.before.before.before.before.before in omega (arith, to_go₁ s, s.fits, c.put_gone_records-at.ensures.count)
 
 pub loop-i-preserved-then-gone-p : goal.loop-i-preserved-then-gone-p
-loop-i-preserved-then-gone-p c = (omega arith, put_at_lem (coming c.before.before.before.before.before) (part_over _ _ _ _ _ c.put_gone_records-at.ensures))
+loop-i-preserved-then-gone-p c = (omega arith, put_at_lem (coming c.before.before.before.before.before.before.before.before.before.before) (part_over _ _ _ _ _ c.put_gone_records-at.ensures))
 
 pub loop-i-preserved : goal.loop-i-preserved
 loop-i-preserved c =

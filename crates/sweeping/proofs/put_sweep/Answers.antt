@@ -9,44 +9,45 @@ use Rattle.rules.specs.Records.{group_epoch, all_bytes}
 use Rattle.numbers.proofs.Writing.{Writing, Stage, begin, first, next, to_go, same_len, in_range_lem, room, room₀, ended}
 use Rattle.events.proofs.Storing.{two_parts}
 use Rattle.sweeping.specs.Marks.{marked_records}
+use Rattle.sweeping.proofs.put_sweep.Goals.{After-buf-1, After-buf-2-1, Start}
 use Rattle.sweeping.proofs.put_sweep.Goals as goal
 
-abbrev parts : goal.Start → List (List ℕ)
+abbrev parts : Start → List (List ℕ)
 parts c = let a = c.args in all_bytes (marked_records a.gone.now a.targets.now) ∷ all_bytes (only_if a.raises (group_epoch a.epoch)) ∷ []
 
-abbrev whole : goal.Start → List ℕ
+abbrev whole : Start → List ℕ
 whole c = let a = c.args in all_bytes (marked_records a.gone.now a.targets.now ++ only_if a.raises (group_epoch a.epoch))
 
-s₀ : (c : goal.Start) → Writing (whole c) c.args.buf.now c.args.buf.now 0 (parts c)
+s₀ : (c : Start) → Writing (whole c) c.args.buf.now c.args.buf.now 0 (parts c)
 s₀ c = let a = c.args in begin _ _ _ (two_parts (marked_records a.gone.now a.targets.now) (only_if a.raises (group_epoch a.epoch))) c.requires
 
 -- the buffer after the first n parts
-abbrev After : ℕ → goal.Start → Type 0
+abbrev After : ℕ → Start → Type 0
 After n c = Stage (whole c) c.args.buf.now (drop n (parts c))
 
-abbrev s₁ : (c : goal.After-slice_known-2-1) → After 1 c.before.before.before.before.before
-s₁ c = first (s₀ c.before.before.before.before.before) c.put_marked-at.ensures
+abbrev s₁ : (c : After-buf-1) → After 1 c.before.before.before.before
+s₁ c = first (s₀ c.before.before.before.before) c.put_marked-at.ensures
 
-abbrev s₂ : (c : goal.After-slice_known-3-1) → After 2 c.before.before.before.before.before.before.before.before.before
+abbrev s₂ : (c : After-buf-2-1) → After 2 c.before.before.before.before.before.before.before.before
 s₂ c = next (s₁ c.before.before.before.before) c.put_group_epoch_if.ensures
 
 pub put_marked-at-requires : goal.put_marked-at-requires
 put_marked-at-requires c = room₀ (s₀ c.before.before)
 
 pub slice_bounds-put_group_epoch_if-count : goal.slice_bounds-put_group_epoch_if-count
-slice_bounds-put_group_epoch_if-count c = in_range_lem (s₁ c).run
+slice_bounds-put_group_epoch_if-count c = in_range_lem (s₁ c.before.before).run
 
 pub slice_bounds-put_group_epoch_if-start : goal.slice_bounds-put_group_epoch_if-start
-slice_bounds-put_group_epoch_if-start c = in_range_lem (s₁ c).run
+slice_bounds-put_group_epoch_if-start c = in_range_lem (s₁ c.before.before).run
 
 pub put_group_epoch_if-requires : goal.put_group_epoch_if-requires
-put_group_epoch_if-requires c = room (s₁ c.before).run
+put_group_epoch_if-requires c = room (s₁ c.before.before).run
 
 pub overflow_add-result : goal.overflow_add-result
-overflow_add-result c = let t = (s₂ c).run in omega (arith, to_go t, t.fits)
+overflow_add-result c = let t = (s₂ c.before.before).run in omega (arith, to_go t, t.fits)
 
 pub shape_of-buf : goal.shape_of-buf
-shape_of-buf c = same_len (s₂ c).run
+shape_of-buf c = same_len (s₂ c.before.before).run
 
 pub returns : goal.returns
-returns c = ended (s₂ c).run refl
+returns c = ended (s₂ c.before.before).run refl

@@ -10,9 +10,10 @@ use Rattle.events.specs.Outcomes.{carried}
 use Rattle.events.proofs.Carrying.{took_refused, same_refused}
 use Rattle.events.proofs.Lent.{goes_back_is}
 use Rattle.sweeping.proofs.SweepRows.{row_clock, sweep_step}
+use Rattle.sweeping.proofs.sweep.Goals.{Start}
 use Rattle.sweeping.proofs.sweep.Goals as goal
 
-abbrev entry : goal.Start → Parts
+abbrev entry : Start → Parts
 entry c = let a = c.args in parts a.head.now a.members.now a.target.now a.holder.now a.waiting.now
 
 pub bounds-head-2 : goal.bounds-head-2
@@ -20,7 +21,7 @@ bounds-head-2 c = omega (arith, c.whole.ensures.head_long)
 
 pub returns-then-goes_back : goal.returns-then-goes_back
 returns-then-goes_back c =
-    let s = c.before.before.before.before.before.before.before.before.before.before.before in
+    let s = c.before.before.before.before.before.before.before.before in
     let a = s.args in
     λ l. (
       same_refused c.refused.ensures (entry s),
@@ -31,7 +32,7 @@ returns-then-goes_back c =
 pub returns : goal.returns
 unfolding view_parts
 returns c =
-    let s = c.before.before.before.before.before.before.before.before.before.before.before.before.before.before.before.before.before.before.before.before.before.before.before.before in
+    let s = c.before.before.before.before.before.before.before.before.before.before.before.before.before.before.before.before.before.before in
     let a = s.args in
     let w = c.whole.ensures in
     let e = c.sweep_marked.ensures in

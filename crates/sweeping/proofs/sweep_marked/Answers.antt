@@ -17,23 +17,24 @@ use Rattle.events.proofs.Carrying.{same_refused}
 use Rattle.events.proofs.Storing.{too_long, stored}
 use Rattle.sweeping.specs.Marks.{marked, marked_records}
 use Rattle.sweeping.proofs.SweepRows.{sweep_nobody, sweep_records_lem, sweep_group}
+use Rattle.sweeping.proofs.sweep_marked.Goals.{Start}
 use Rattle.sweeping.proofs.sweep_marked.Goals as goal
 
-abbrev entry : goal.Start → Parts
+abbrev entry : Start → Parts
 entry c = let a = c.args in parts a.head.now a.members.now a.target.now a.holder.now a.waiting.now
 
 -- what the rules make of the marked places
-abbrev swept : goal.Start → List (Option Topic) → Effect
+abbrev swept : Start → List (Option Topic) → Effect
 swept c ts = sweep_of (view_parts ts (entry c)) (marked c.args.gone.now) c.args.tick
 
-abbrev start : goal.After-sweep_len-size → goal.Start
+abbrev start : Start → Start
 start c = c.before.before.before.before.before.before.before.before.before.before.before.before.before.before.before.before
 
-some_go : (c : goal.After-sweep_len-size) → 1 ≤ length (marked (start c).args.gone.now)
+some_go : (c : Start) → 1 ≤ length (marked (start c).args.gone.now)
 some_go c = omega (arith, c.count_marks-count.ensures, c.if-count-eq0.false)
 
 -- what the code stores is what the effect does
-recorded : (c : goal.After-sweep_len-size) (ts : List (Option Topic))
+recorded : (c : Start) (ts : List (Option Topic))
     → (marked_records (start c).args.gone.now c.target_places-targets.result ++ only_if (not c.at_end_lem.result) (group_epoch c.raised_epoch-epoch.result)) ≡ (swept (start c) ts).records
 recorded c ts =
     let a = (start c).args in
@@ -47,29 +48,29 @@ bounds-head-2 c = omega (arith, c.whole.ensures.head_long)
 pub returns-then-count-eq0 : goal.returns-then-count-eq0
 returns-then-count-eq0 c =
     let a = c.args in
-    λ l. (tt, λ ts. sweep_nobody ts (entry c.before.before.before.before.before.before.before.before.before) a.tick a.records.now l (marked a.gone.now) c.whole.ensures.head_long (sym c.count_marks-count.ensures ∙ c.if-count-eq0.true))
+    λ l. (tt, λ ts. sweep_nobody ts (entry c.before.before.before.before.before.before) a.tick a.records.now l (marked a.gone.now) c.whole.ensures.head_long (sym c.count_marks-count.ensures ∙ c.if-count-eq0.true))
 
 pub bounds-head-0 : goal.bounds-head-0
 bounds-head-0 c = omega (arith, c.whole.ensures.head_long)
 
 pub returns-then-records-size : goal.returns-then-records-size
 returns-then-records-size c =
-    let s = c.before.before.before.before.before.before.before.before.before.before.before.before.before.before.before.before.before.before in
+    let s = c.before.before.before.before.before.before.before.before.before.before.before.before.before.before in
     λ l. (
       same_refused c.refused.ensures (entry s),
-      λ ts. too_long (swept s ts) (recorded c.before.before ts) s.args.records.now l (view_parts ts (entry s)) (omega (arith, c.sweep_len-size.ensures, c.if-records-size.true)) c.refused.ensures,
+      λ ts. too_long (swept s ts) (recorded c.before.before.before.before.before.before.before.before.before.before.before.before.before.before ts) s.args.records.now l (view_parts ts (entry s)) (omega (arith, c.sweep_len-size.ensures, c.if-records-size.true)) c.refused.ensures,
     )
 
 pub put_sweep-written-requires : goal.put_sweep-written-requires
 put_sweep-written-requires c = omega (arith, c.sweep_len-size.ensures, c.if-records-size.false)
 
 pub bounds-head-0-2 : goal.bounds-head-0-2
-bounds-head-0-2 c = let x = c.before.before.before.before.before.before.before.before.before.before.before in omega (arith, x.whole.ensures.head_long)
+bounds-head-0-2 c = let x = c in omega (arith, x.whole.ensures.head_long)
 
 pub returns : goal.returns
 unfolding sweep_of
 returns c =
-    let x = c.before.before.before.before.before.before.before.before.before.before.before in
+    let x = c.before.before.before.before.before.before.before.before.before.before.before.before.before.before.before.before.before.before.before.before.before.before.before in
     let s = start x in
     let a = s.args in
     let count = x.count_marks-count in

@@ -28,7 +28,7 @@ pub loop-s-preserved : goal.loop-s-preserved
 loop-s-preserved c =
     let l = c.loop-s in
     let e = c.after-s.ensures l.invariant.2 in
-    let x = c.before.before.before.before.before.before in
+    let x = c in
     let ahead = next_ahead x.args.slots.words (l.s.slot + 1) c.after-s.result.slot (omega arith) e.0 in (
       e.0.0,
       λ h. (e.0.2 h).1,

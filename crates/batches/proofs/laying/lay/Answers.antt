@@ -12,5 +12,5 @@ give-requires c = c.clear.ensures.size ∙ c.full.ensures
 
 pub returns : goal.returns
 returns c =
-    let x = c.before.before.before.before.before.before in
+    let x = c in
     laid_is x.args.p x.args.slots.words c.full.ensures c.clear.ensures c.give.ensures

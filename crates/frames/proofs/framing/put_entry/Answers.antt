@@ -10,28 +10,29 @@ use Prim.Native.Nat.{ℕ, ◌+◌, ◌-◌, ◌*◌, ◌≤◌, ◌<◌}
 use native.Mathlib.Omega.{arith}
 use mathlib.Core.Path.{◌≡◌, refl, sym, ap, ◌∙◌}
 use borrow.Author.Rules.{rules}
+use Rattle.frames.proofs.framing.put_entry.Goals.{Start}
 use Rattle.frames.proofs.framing.put_entry.Goals as goal
 
-abbrev After : ℕ → goal.Start → List ℕ → ℕ → Type 0
+abbrev After : ℕ → Start → List ℕ → ℕ → Type 0
 After k c buf at = let a = c.args in Writing (entry a.records.now) a.buf.now buf at (drop k (number a.n ∷ a.records.now ∷ []))
 
-s₀ : (c : goal.Start) → After 0 c c.args.buf.now 0
+s₀ : (c : Start) → After 0 c c.args.buf.now 0
 s₀ c = begin _ _ _ (entry_parts c.args.records.now c.args.n c.requires.0 c.requires.1) c.requires.2
 
-s₁ : (c : goal.After-put_number_at-at) → After 1 c.before.before.before.before c.put_number_at-at.new.0 c.put_number_at-at.result
-s₁ c = put_at_lem (s₀ c.before.before.before.before) c.put_number_at-at.ensures
+s₁ : (c : Start) → After 1 c c.put_number_at-at.new.0 c.put_number_at-at.result
+s₁ c = put_at_lem (s₀ c) c.put_number_at-at.ensures
 
-s₂ : (c : goal.After-put_bytes_at) → After 2 c.before.before.before.before.before.before.before.before c.put_bytes_at.new.0 c.put_bytes_at.result
-s₂ c = put_at_lem (s₁ c.before.before.before.before) c.put_bytes_at.ensures
+s₂ : (c : Start) → After 2 c c.put_bytes_at.new.0 c.put_bytes_at.result
+s₂ c = put_at_lem (s₁ c) c.put_bytes_at.ensures
 
 pub put_number_at-at-requires : goal.put_number_at-at-requires
-put_number_at-at-requires c = room_at (s₀ c.before.before.before)
+put_number_at-at-requires c = room_at (s₀ c.before.before.before.before)
 
 pub put_bytes_at-requires : goal.put_bytes_at-requires
-put_bytes_at-requires c = room_at (s₁ c.before.before.before)
+put_bytes_at-requires c = room_at (s₁ c.before.before.before.before.before.before.before.before)
 
 pub shape_of-buf : goal.shape_of-buf
-shape_of-buf c = same_len (s₂ c.before.before)
+shape_of-buf c = same_len (s₂ c.before.before.before.before.before.before.before.before.before.before.before)
 
 pub returns : goal.returns
-returns c = ended (s₂ c.before.before) refl
+returns c = ended (s₂ c.before.before.before.before.before.before.before.before.before.before.before) refl

@@ -8,7 +8,7 @@ use Rattle.group.proofs.members.seat_at.Goals as goal
 pub returns-then-k-lt-MEMBERS : goal.returns-then-k-lt-MEMBERS
 unfolding seat_at matches
 returns-then-k-lt-MEMBERS c =
-    let x = c.before.before.before.before.before.before.before.before.before.before.before in
+    let x = c in
     let a = x.args in
     let ms = a.members.now in
     let k = a.p.0 in

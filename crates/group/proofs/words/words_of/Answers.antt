@@ -8,7 +8,7 @@ pub returns : goal.returns
 returns c =
     let id = c.args.id in
     let n : length id ≡ id_length = search rules in
-    let second = c.before.before.before.before.before in
+    let second = c in
     let f : (k : ℕ) → k < id_length → get_or id k 0 < 256 = λ k q. let g : Fits w8 (get_or id k 0) = search rules in g.fits in
     summed id n f second.word-b.ensures c.word-c.ensures c.word-d.ensures
     (c.wrapping_add_u32-two.ensures ∙ ap (λ (w : ℕ). (w + second.word-b.result) % 4294967296) second.word-w.ensures)

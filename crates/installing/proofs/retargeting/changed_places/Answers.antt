@@ -23,6 +23,6 @@ loop-s-preserved c = (omega arith, mark_skip _ _ c.loop-s.invariant.1 c.if-old-n
 pub returns : goal.returns
 returns c =
     let l = c.loop-s in
-    let x = c.before.before.before.before in
+    let x = c in
     let n : length x.args.before.now ≡ slot_count = search rules in
     mark_end x.args.before.now x.args.after.now n x.requires (omega arith) l.invariant.1

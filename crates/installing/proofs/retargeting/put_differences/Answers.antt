@@ -14,14 +14,12 @@ use Rattle.records.proofs.Differences.{run_next}
 use Rattle.installing.specs.Targets.{unheld}
 use Rattle.installing.specs.Links.{is_of, slots_from, NextOf}
 use Rattle.installing.proofs.Linking.{skip_to, set_from}
-use Rattle.installing.proofs.retargeting.put_differences.Invariants.{Begins}
+use Rattle.installing.proofs.retargeting.put_differences.Invariants.{Begins, begins}
+use Rattle.installing.proofs.retargeting.put_differences.Goals.{Start}
 use Rattle.installing.proofs.retargeting.put_differences.Goals as goal
 
-abbrev begins : (c : goal.Start invariant-loop decreases-loop) → let a = c.args in Begins a.target.now a.firsts.now a.buf.now (get_or a.firsts.now a.p.0 0) a.p.0
-begins c = (c.requires.1, refl, c.requires.2)
-
 -- inside the loop the difference of `slot` comes next
-turn : (c : goal.In-loop-slot invariant-loop decreases-loop) → let a = c.args in let l = c.loop-slot in
+turn : (c : Start) → let a = c.args in let l = c.loop-slot in
     (p : ℕ) → Begins a.target.now a.firsts.now a.buf.now (get_or a.firsts.now a.p.0 0) p
     → Writing (differences 0 (set_m p (unheld a.target.now))) a.buf.now l.buf l.at (number (l.slot - l.last) ∷ differences l.slot (slots_from a.target.now p (l.slot + 1)) ∷ [])
 turn c p b =
@@ -30,7 +28,7 @@ turn c p b =
     run_next (is_of c.args.target.now p) l.last l.slot slot_count (omega arith) (i.0 (omega arith)) i.1
 
 -- the next slot of the place
-ahead : (c : goal.In-loop-slot invariant-loop decreases-loop) → let a = c.args in let l = c.loop-slot in
+ahead : (c : Start) → let a = c.args in let l = c.loop-slot in
     (p : ℕ) → Begins a.target.now a.firsts.now a.buf.now (get_or a.firsts.now a.p.0 0) p → NextOf a.target.now p (l.slot + 1) (get_or a.nexts.now l.slot 0)
 ahead c p b =
     let l = c.loop-slot in
@@ -41,7 +39,7 @@ bounds-firsts-p c = omega (arith, c.requires.0.firsts_long, c.requires.1)
 
 pub loop-slot-init : goal.loop-slot-init
 loop-slot-init c =
-    let x = c.before.before.before.before in
+    let x = c in
     let a = x.args in
     let f = x.requires.0 in (
       (f.first a.p.0 x.requires.1).1,
@@ -52,31 +50,31 @@ loop-slot-init c =
     )
 
 pub put_number_at-at-requires : goal.put_number_at-at-requires
-put_number_at-at-requires c = room_at (turn c.before c.args.p.0 (begins c.before.before.before.before.before.before.before))
+put_number_at-at-requires c = room_at (turn c.before.before.before.before.before.before.before.before.before c.args.p.0 (begins c.before.before.before.before.before.before.before.before.before))
 
 pub bounds-nexts-slot : goal.bounds-nexts-slot
 bounds-nexts-slot c = omega (arith, c.requires.0.nexts_long)
 
 pub loop-slot-smaller : goal.loop-slot-smaller
-loop-slot-smaller c = let n = ahead c.before.before.before.before.before c.args.p.0 (begins c.before.before.before.before.before.before.before.before.before.before.before) in omega (arith, n.0)
+loop-slot-smaller c = let n = ahead c.before.before.before.before.before.before.before.before.before.before.before.before.before.before c.args.p.0 (begins c.before.before.before.before.before.before.before.before.before.before.before.before.before.before) in omega (arith, n.0)
 
 pub loop-slot-preserved : goal.loop-slot-preserved
 loop-slot-preserved c =
-    let n = ahead c.before.before.before.before.before c.args.p.0 (begins c.before.before.before.before.before.before.before.before.before.before.before) in (
+    let n = ahead c.before.before.before.before.before.before.before.before.before.before.before.before.before.before c.args.p.0 (begins c.before.before.before.before.before.before.before.before.before.before.before.before.before.before) in (
       n.1,
       omega (arith, n.0),
       λ p b.
-          let m = ahead c.before.before.before.before.before p b in
-          let w = put_at_lem (turn c.before.before.before.before.before p b) c.put_number_at-at.ensures in
+          let m = ahead c.before.before.before.before.before.before.before.before.before.before.before.before.before.before p b in
+          let w = put_at_lem (turn c.before.before.before.before.before.before.before.before.before.before.before.before.before.before p b) c.put_number_at-at.ensures in
           (m.3, rw (skip_to c.args.target.now p m) at w),
     )
 
 pub shape_of-buf : goal.shape_of-buf
-shape_of-buf c = same_len (c.loop-slot.invariant.2 c.args.p.0 (begins c.before.before.before.before.before.before)).1
+shape_of-buf c = same_len (c.loop-slot.invariant.2 c.args.p.0 (begins c.before.before.before.before.before.before.before.before)).1
 
 pub returns : goal.returns
 unfolding differences keep up_to
 returns c =
     let l = c.loop-slot in
     let e : l.slot ≡ slot_count = omega arith in
-    ended (rw e at (l.invariant.2 c.args.p.0 (begins c.before.before.before.before.before.before)).1) refl
+    ended (rw e at (l.invariant.2 c.args.p.0 (begins c.before.before.before.before.before.before.before.before)).1) refl

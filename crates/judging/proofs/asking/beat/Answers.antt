@@ -11,8 +11,8 @@ use Rattle.judging.proofs.asking.beat.Goals as goal
 
 pub returns : goal.returns
 returns c =
-    let c2 = c.before.before in
-    let c4 = c2.before.before in
+    let c2 = c in
+    let c4 = c2 in
     let a = c4.args in
     let s = a.seat in
     let n : length s.id ≡ 16 = search rules in

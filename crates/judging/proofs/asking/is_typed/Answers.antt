@@ -24,7 +24,7 @@ returns-then-subscription-ge-SUBSCRIPTIONS c =
 
 pub returns-then-seat-gt-LAST_EPOCH : goal.returns-then-seat-gt-LAST_EPOCH
 returns-then-seat-gt-LAST_EPOCH c =
-    let c5 = c.before.before.before.before.before in
+    let c5 = c in
     let a = c5.args in
     let s = a.seat in
     let n : length s.id ≡ 16 = search rules in
@@ -34,9 +34,9 @@ returns-then-seat-gt-LAST_EPOCH c =
 
 pub returns-then-timeout-seat : goal.returns-then-timeout-seat
 returns-then-timeout-seat c =
-    let c4 = c.before.before.before.before in
-    let c5 = c4.before in
-    let c7 = c5.before.before in
+    let c4 = c in
+    let c5 = c4 in
+    let c7 = c5 in
     let a = c7.args in
     let s = a.seat in
     let n : length s.id ≡ 16 = search rules in
@@ -46,9 +46,9 @@ returns-then-timeout-seat c =
 
 pub returns : goal.returns
 returns c =
-    let c4 = c.before.before.before.before in
-    let c5 = c4.before in
-    let c7 = c5.before.before in
+    let c4 = c in
+    let c5 = c4 in
+    let c7 = c5 in
     let a = c7.args in
     let s = a.seat in
     let n : length s.id ≡ 16 = search rules in

@@ -8,13 +8,14 @@ use mir.Facts.{to_z_pos}
 use borrow.Author.Rules.{rules}
 use Rattle.rules.specs.Records.{MemberMetadata}
 use Rattle.judging.proofs.Beating.{join_fits, joins_as, large_timeout, large_subscription, not_good}
+use Rattle.judging.proofs.asking.join.Goals.{Start}
 use Rattle.judging.proofs.asking.join.Goals as goal
 
 -- the record 5
-abbrev said : goal.Start → ℕ → MemberMetadata
+abbrev said : Start → ℕ → MemberMetadata
 said c p = let a = c.args in record { place = p; id = a.id; timeout = a.timeout; subscription = a.subscription }
 
-long : (c : goal.Start) → length c.args.id ≡ 16
+long : (c : Start) → length c.args.id ≡ 16
 long c = search rules
 
 pub returns-then-timeout-gt-LAST_EPOCH : goal.returns-then-timeout-gt-LAST_EPOCH

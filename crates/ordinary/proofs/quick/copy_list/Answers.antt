@@ -7,9 +7,10 @@ use lib.ListN.{length, drop, get_or, drop_of_length-le}
 use lib.Seq.{drop-cons}
 use Rattle.rules.specs.Step.{overlay}
 use Rattle.numbers.proofs.Writing.{Writing, begin, to_go₁, same_len, put_one, ended}
+use Rattle.ordinary.proofs.quick.copy_list.Goals.{In-loop-i}
 use Rattle.ordinary.proofs.quick.copy_list.Goals as goal
 
-next : (c : goal.In-loop-i invariant-loop decreases-loop) → let l = c.loop-i in let a = c.args in Writing a.from.now a.to.now l.to l.i ((get_or a.from.now l.i 0 ∷ drop (l.i + 1) a.from.now) ∷ [])
+next : (c : In-loop-i) → let l = c.loop-i in let a = c.args in Writing a.from.now a.to.now l.to l.i ((get_or a.from.now l.i 0 ∷ drop (l.i + 1) a.from.now) ∷ [])
 next c =
     let l = c.loop-i in
     let a = c.args in
@@ -25,13 +26,13 @@ pub offset_bounds-from-i : goal.offset_bounds-from-i
 offset_bounds-from-i c = let s = next c in omega (arith, to_go₁ s, same_len s, s.fits)
 
 pub offset_bounds-to-i : goal.offset_bounds-to-i
-offset_bounds-to-i c = let s = next c.before in omega (arith, to_go₁ s, same_len s, s.fits)
+offset_bounds-to-i c = let s = next c.before.before in omega (arith, to_go₁ s, same_len s, s.fits)
 
 pub bounds-to-i : goal.bounds-to-i
-bounds-to-i c = let s = next c.before in omega (arith, to_go₁ s, same_len s, s.fits)
+bounds-to-i c = let s = next c.before.before in omega (arith, to_go₁ s, same_len s, s.fits)
 
 pub loop-i-preserved : goal.loop-i-preserved
-loop-i-preserved c = (omega arith, put_one (next c.before))
+loop-i-preserved c = (omega arith, put_one (next c.before.before))
 
 pub shape_of-to : goal.shape_of-to
 shape_of-to c = same_len c.loop-i.invariant.1

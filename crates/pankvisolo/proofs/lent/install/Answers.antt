@@ -11,7 +11,7 @@ use Rattle.pankvisolo.proofs.lent.install.Goals as goal
 
 pub returns : goal.returns
 returns c =
-    let s = c.before.before.before.before.before.before.before.before.before.before.before.before.before.before.before.before.before in
+    let s = c in
     let a = s.args in
     let whole = c.whole.ensures in
     let holding : Holding = record {

@@ -5,10 +5,11 @@ use lib.ListN.{replicate, get_or-replicate}
 use Rattle.slots.specs.Set.{word_count}
 use Rattle.slots.proofs.Words.{has_none}
 use Rattle.reading.proofs.Rising.{Rising, Right, rising_start, rising_bad, rising_more, rising_ends, slot_wrong, slot_good}
+use Rattle.reading.proofs.fields.slots_at.Goals.{Start}
 use Rattle.reading.proofs.fields.slots_at.Goals as goal
 
 -- the next slot
-right : (c : goal.Else-slot-eq-NO_SLOT invariant-loop decreases-loop)
+right : (c : Start)
     → Right c.loop-left.low (c.loop-left.from + c.number-d.result.value)
     c.slot_after-slot.result
 right c =
@@ -29,26 +30,26 @@ returns-then-slot-eq-NO_SLOT c =
     rising_bad l.invariant (omega arith) d.ensures wrong (omega (arith, c.well_formed.0.1))
 
 pub overflow_cast-k : goal.overflow_cast-k
-overflow_cast-k c = let x = right c in omega (arith, x.is, x.below)
+overflow_cast-k c = let x = right c.before.before.before.before.before.before.before in omega (arith, x.is, x.below)
 
 pub offset_bounds-words-k : goal.offset_bounds-words-k
-offset_bounds-words-k c = let x = right c in omega (arith, x.is, x.below)
+offset_bounds-words-k c = let x = right c.before.before.before.before.before.before.before in omega (arith, x.is, x.below)
 
 pub bounds-words-k : goal.bounds-words-k
-bounds-words-k c = let x = right c in omega (arith, x.is, x.below, c.loop-left.invariant.long)
+bounds-words-k c = let x = right c.before.before.before.before.before.before.before in omega (arith, x.is, x.below, c.loop-left.invariant.long)
 
 pub offset_bounds-words-k-in-loop-left : goal.offset_bounds-words-k-in-loop-left
-offset_bounds-words-k-in-loop-left c = let x = right c in omega (arith, x.is, x.below)
+offset_bounds-words-k-in-loop-left c = let x = right c.before.before.before.before.before.before.before in omega (arith, x.is, x.below)
 
 pub bounds-words-k-in-loop-left : goal.bounds-words-k-in-loop-left
-bounds-words-k-in-loop-left c = let x = right c in omega (arith, x.is, x.below, c.loop-left.invariant.long)
+bounds-words-k-in-loop-left c = let x = right c.before.before.before.before.before.before.before in omega (arith, x.is, x.below, c.loop-left.invariant.long)
 
 pub overflow_add-low : goal.overflow_add-low
-overflow_add-low c = let x = right c in omega (arith, x.is, x.below)
+overflow_add-low c = let x = right c.before.before.before.before.before.before.before in omega (arith, x.is, x.below)
 
 pub loop-left-preserved : goal.loop-left-preserved
 loop-left-preserved c =
-    let x = right c in
+    let x = right c.before.before.before.before.before.before.before in
     rw x.is (rising_more c.loop-left.invariant (omega arith) c.number-d.ensures x.passes x.above x.below)
 
 pub returns : goal.returns

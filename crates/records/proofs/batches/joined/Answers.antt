@@ -5,4 +5,5 @@ use Rattle.records.proofs.Differences.{slots_none}
 use Rattle.records.proofs.batches.joined.Goals as goal
 
 pub returns : goal.returns
+unfolding view_current joined_at
 returns c = rw (slots_none c.empty-none.result.words c.empty-none.ensures)

@@ -8,4 +8,5 @@ use Rattle.records.proofs.Differences.{slots_none}
 use Rattle.records.proofs.batches.no_target.Goals as goal
 
 pub returns : goal.returns
+unfolding view_target
 returns c = ap (λ (l : List ℕ). target_is (record { place = c.args.place.0; slots = l })) (slots_none c.empty.result.words c.empty.ensures)

@@ -7,53 +7,54 @@ use Rattle.rules.specs.Records.{all_bytes}
 use Rattle.rules.specs.Effects.{gone_records}
 use Rattle.numbers.proofs.Writing.{Stage, begun, first, next, to_go, in_range_lem, same_len, room, room₀, ended}
 use Rattle.records.proofs.Lists.{gone_parts, gone_parts_lem}
+use Rattle.records.proofs.batches.put_gone_records.Goals.{After-buf-1, After-buf-2-1, After-buf-3-1, Start}
 use Rattle.records.proofs.batches.put_gone_records.Goals as goal
 
 -- the buffer after the first n records
-abbrev After : ℕ → goal.Start → Type 0
+abbrev After : ℕ → Start → Type 0
 After n c = let a = c.args in Stage (all_bytes (gone_records a.place.0 a.retargets)) a.buf.now (drop n (gone_parts a.place.0 a.retargets))
 
-abbrev s₀ : (c : goal.Start) → After 0 c
+abbrev s₀ : (c : Start) → After 0 c
 s₀ c = let a = c.args in begun (gone_parts_lem a.place.0 a.retargets) c.requires
 
-abbrev s₁ : (c : goal.After-slice_known-2-1) → After 1 c.before.before.before.before.before.before
-s₁ c = first (s₀ c.before.before.before.before.before.before).run c.put_current_gone-i.ensures
+abbrev s₁ : (c : After-buf-1) → After 1 c.before.before.before.before.before
+s₁ c = first (s₀ c.before.before.before.before.before).run c.put_current_gone-i.ensures
 
-abbrev s₂ : (c : goal.After-slice_known-3-1) → After 2 c.before.before.before.before.before.before.before.before.before.before
+abbrev s₂ : (c : After-buf-2-1) → After 2 c.before.before.before.before.before.before.before.before.before
 s₂ c = next (s₁ c.before.before.before.before) (rw c.no_target-none.ensures at c.put_target_if.ensures)
 
-abbrev s₃ : (c : goal.After-slice_known-4-1) → After 3 c.before.before.before.before.before.before.before.before.before.before.before.before.before.before
+abbrev s₃ : (c : After-buf-3-1) → After 3 c.before.before.before.before.before.before.before.before.before.before.before.before.before
 s₃ c = next (s₂ c.before.before.before.before) c.put_member_gone.ensures
 
 pub put_current_gone-i-requires : goal.put_current_gone-i-requires
 put_current_gone-i-requires c = room₀ (s₀ c.before.before.before).run
 
 pub slice_bounds-put_target_if-count : goal.slice_bounds-put_target_if-count
-slice_bounds-put_target_if-count c = in_range_lem (s₁ c).run
+slice_bounds-put_target_if-count c = in_range_lem (s₁ c.before.before).run
 
 pub slice_bounds-put_target_if-start : goal.slice_bounds-put_target_if-start
-slice_bounds-put_target_if-start c = in_range_lem (s₁ c).run
+slice_bounds-put_target_if-start c = in_range_lem (s₁ c.before.before).run
 
 pub put_target_if-requires : goal.put_target_if-requires
-put_target_if-requires c = rw c.no_target-none.ensures (room (s₁ c.before).run)
+put_target_if-requires c = rw c.no_target-none.ensures (room (s₁ c.before.before).run)
 
 pub overflow_add-j : goal.overflow_add-j
-overflow_add-j c = let t = (s₂ c).run in omega (arith, to_go t, t.fits)
+overflow_add-j c = let t = (s₂ c.before.before).run in omega (arith, to_go t, t.fits)
 
 pub slice_bounds-put_member_gone-count : goal.slice_bounds-put_member_gone-count
-slice_bounds-put_member_gone-count c = in_range_lem (s₂ c).run
+slice_bounds-put_member_gone-count c = in_range_lem (s₂ c.before.before).run
 
 pub slice_bounds-put_member_gone-start : goal.slice_bounds-put_member_gone-start
-slice_bounds-put_member_gone-start c = in_range_lem (s₂ c).run
+slice_bounds-put_member_gone-start c = in_range_lem (s₂ c.before.before).run
 
 pub put_member_gone-requires : goal.put_member_gone-requires
-put_member_gone-requires c = room (s₂ c.before).run
+put_member_gone-requires c = room (s₂ c.before.before).run
 
 pub overflow_add-result : goal.overflow_add-result
-overflow_add-result c = let t = (s₃ c).run in omega (arith, to_go t, t.fits)
+overflow_add-result c = let t = (s₃ c.before.before).run in omega (arith, to_go t, t.fits)
 
 pub shape_of-buf : goal.shape_of-buf
-shape_of-buf c = same_len (s₃ c).run
+shape_of-buf c = same_len (s₃ c.before.before).run
 
 pub returns : goal.returns
-returns c = ended (s₃ c).run refl
+returns c = ended (s₃ c.before.before).run refl

@@ -8,38 +8,39 @@ use Rattle.rules.specs.Effects.{topic_records}
 use Rattle.numbers.proofs.Writing.{Stage, begun, first, next, to_go, in_range_lem, same_len, room, room₀, ended}
 use Rattle.records.specs.Views.{view_topic_metadata}
 use Rattle.records.proofs.Lists.{topic_parts, topic_parts_lem}
+use Rattle.records.proofs.batches.put_topic_records.Goals.{After-buf-1, After-buf-2-1, Start}
 use Rattle.records.proofs.batches.put_topic_records.Goals as goal
 
 -- the buffer after the first n records
-abbrev After : ℕ → goal.Start → Type 0
+abbrev After : ℕ → Start → Type 0
 After n c = let a = c.args in Stage (all_bytes (topic_records a.changes (view_topic_metadata a.t) a.raises a.epoch)) a.buf.now (drop n (topic_parts a.changes (view_topic_metadata a.t) a.raises a.epoch))
 
-abbrev s₀ : (c : goal.Start) → After 0 c
+abbrev s₀ : (c : Start) → After 0 c
 s₀ c = let a = c.args in begun (topic_parts_lem a.changes (view_topic_metadata a.t) a.raises a.epoch) c.requires
 
-abbrev s₁ : (c : goal.After-slice_known-2-1) → After 1 c.before.before.before.before.before
-s₁ c = first (s₀ c.before.before.before.before.before).run c.put_topic_if-at.ensures
+abbrev s₁ : (c : After-buf-1) → After 1 c.before.before.before.before
+s₁ c = first (s₀ c.before.before.before.before).run c.put_topic_if-at.ensures
 
-abbrev s₂ : (c : goal.After-slice_known-3-1) → After 2 c.before.before.before.before.before.before.before.before.before
+abbrev s₂ : (c : After-buf-2-1) → After 2 c.before.before.before.before.before.before.before.before
 s₂ c = next (s₁ c.before.before.before.before) c.put_group_epoch_if.ensures
 
 pub put_topic_if-at-requires : goal.put_topic_if-at-requires
 put_topic_if-at-requires c = room₀ (s₀ c.before.before).run
 
 pub slice_bounds-put_group_epoch_if-count : goal.slice_bounds-put_group_epoch_if-count
-slice_bounds-put_group_epoch_if-count c = in_range_lem (s₁ c).run
+slice_bounds-put_group_epoch_if-count c = in_range_lem (s₁ c.before.before).run
 
 pub slice_bounds-put_group_epoch_if-start : goal.slice_bounds-put_group_epoch_if-start
-slice_bounds-put_group_epoch_if-start c = in_range_lem (s₁ c).run
+slice_bounds-put_group_epoch_if-start c = in_range_lem (s₁ c.before.before).run
 
 pub put_group_epoch_if-requires : goal.put_group_epoch_if-requires
-put_group_epoch_if-requires c = room (s₁ c.before).run
+put_group_epoch_if-requires c = room (s₁ c.before.before).run
 
 pub overflow_add-result : goal.overflow_add-result
-overflow_add-result c = let t = (s₂ c).run in omega (arith, to_go t, t.fits)
+overflow_add-result c = let t = (s₂ c.before.before).run in omega (arith, to_go t, t.fits)
 
 pub shape_of-buf : goal.shape_of-buf
-shape_of-buf c = same_len (s₂ c).run
+shape_of-buf c = same_len (s₂ c.before.before).run
 
 pub returns : goal.returns
-returns c = ended (s₂ c).run refl
+returns c = ended (s₂ c.before.before).run refl

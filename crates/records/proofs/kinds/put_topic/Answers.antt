@@ -6,38 +6,44 @@ use Rattle.rules.specs.Records.{bytes_of, topic_is}
 use Rattle.numbers.proofs.Writing.{Stage, begun, first, next_at, same_len, room_at, room₀, ended}
 use Rattle.records.specs.Views.{view_topic_metadata}
 use Rattle.records.proofs.Parts.{topic_parts, topic_fields}
+use Rattle.records.proofs.kinds.put_topic.Goals.{After-put_id_at-j, After-put_number_at, After-put_two-i, Start}
 use Rattle.records.proofs.kinds.put_topic.Goals as goal
 
 -- the buffer after the first n fields
-abbrev After : ℕ → goal.Start → Type 0
+abbrev After : ℕ → Start → Type 0
 After n c = let x = view_topic_metadata c.args.t in Stage (bytes_of (topic_is x)) c.args.buf.now (drop n (topic_parts x))
 
-abbrev s₀ : (c : goal.Start) → After 0 c
+abbrev s₀ : (c : Start) → After 0 c
 s₀ c = begun (topic_fields (view_topic_metadata c.args.t)) c.requires
 
-abbrev s₁ : (c : goal.After-put_two-i) → After 1 c.before.before.before.before
+abbrev s₁ : (c : After-put_two-i) → After 1 c.before.before.before.before
 unfolding view_topic_metadata
 s₁ c = first (s₀ c.before.before.before.before).run c.put_two-i.ensures
 
-abbrev s₂ : (c : goal.After-put_id_at-j) → After 2 c.before.before.before.before.before.before.before.before
+abbrev s₂ : (c : After-put_id_at-j) → After 2 c.before.before.before.before.before.before.before.before
 unfolding view_topic_metadata
 s₂ c = next_at (s₁ c.before.before.before.before) c.put_id_at-j.ensures
 
-abbrev s₃ : (c : goal.After-put_number_at) → After 3 c.before.before.before.before.before.before.before.before.before.before.before.before
+abbrev s₃ : (c : After-put_number_at) → After 3 c.before.before.before.before.before.before.before.before.before.before.before.before
 unfolding view_topic_metadata
 s₃ c = next_at (s₂ c.before.before.before.before) c.put_number_at.ensures
 
 pub put_two-i-requires : goal.put_two-i-requires
+unfolding view_topic_metadata
 put_two-i-requires c = room₀ (s₀ c.before.before.before).run
 
 pub put_id_at-j-requires : goal.put_id_at-j-requires
+unfolding view_topic_metadata
 put_id_at-j-requires c = room_at (s₁ c.before.before.before).run
 
 pub put_number_at-requires : goal.put_number_at-requires
+unfolding view_topic_metadata
 put_number_at-requires c = room_at (s₂ c.before.before.before).run
 
 pub shape_of-buf : goal.shape_of-buf
-shape_of-buf c = same_len (s₃ c.before.before).run
+unfolding view_topic_metadata
+shape_of-buf c = same_len (s₃ c.before.before.before).run
 
 pub returns : goal.returns
-returns c = ended (s₃ c.before.before).run refl
+unfolding view_topic_metadata
+returns c = ended (s₃ c.before.before.before).run refl

@@ -10,20 +10,21 @@ use Rattle.rules.specs.Records.{number}
 use Rattle.rules.proofs.Number.{number_pos}
 use Rattle.slots.specs.Set.{has, slots_of, word_count}
 use Rattle.records.proofs.Extra.{Passed, none_passed, pass_empty, pass_word}
+use Rattle.records.proofs.sets.extra_len.Goals.{Then-word-ne0}
 use Rattle.records.proofs.sets.extra_len.Goals as goal
 
 -- the word in hand, which is not zero
-abbrev Word : goal.Then-word-ne0 invariant-loop decreases-loop → ℕ
+abbrev Word : Then-word-ne0 → ℕ
 Word c = get_or c.args.set.words c.loop-i.i 0
 
-fits : (c : goal.Then-word-ne0 invariant-loop decreases-loop) → Fits w64 (Word c)
+fits : (c : Then-word-ne0) → Fits w64 (Word c)
 fits c = search rules
 
-some : (c : goal.Then-word-ne0 invariant-loop decreases-loop) → 0 < Word c
+some : (c : Then-word-ne0) → 0 < Word c
 some c = omega (arith, c.if-word-ne0.true)
 
-highest : (c : goal.Then-word-ne0 invariant-loop decreases-loop) → count_leading_zeros 64 (Word c) ≤ 63
-highest c = let top = leading_top 64 (Word c) (some c) (fits c).ranges in omega (arith, top.1)
+highest : (c : Then-word-ne0) → count_leading_zeros 64 (Word c) ≤ 63
+highest c = let top = leading_top 64 (Word c) (some c) (fits c).fits in omega (arith, top.1)
 
 pub loop-i-init : goal.loop-i-init
 loop-i-init c = (omega arith, omega arith, none_passed _)
@@ -49,7 +50,7 @@ loop-i-preserved-then-word-ne0 c =
     let w = c.before in
     let x = l.i * 64 + count_trailing_zeros 64 (Word w) - l.last in
     let long : length (number x) ≡ 1 + (c.number_len.result - 1) = omega (arith, c.number_len.ensures, number_pos x) in
-    (omega arith, omega (arith, l.invariant.1, c.number_len.ensures), pass_word c.args.set.words l.i l.extra l.last l.invariant.2 (fits w).ranges (some w) _ long)
+    (omega arith, omega (arith, l.invariant.1, c.number_len.ensures), pass_word c.args.set.words l.i l.extra l.last l.invariant.2 (fits w).fits (some w) _ long)
 
 pub loop-i-preserved : goal.loop-i-preserved
 loop-i-preserved c =

@@ -11,17 +11,18 @@ use Rattle.slots.specs.Set.{has, select, slots_of}
 use Rattle.slots.specs.Walk.{Left}
 use Rattle.slots.proofs.Selecting.{next_ahead, next_skips}
 use Rattle.records.proofs.Differences.{run_next}
+use Rattle.records.proofs.sets.put_differences.Goals.{At-loop-s, In-loop-s}
 use Rattle.records.proofs.sets.put_differences.Goals as goal
 
 -- inside the loop the difference of the step's slot comes next
-abbrev Next : goal.At-loop-s invariant-loop decreases-loop → Type 0
+abbrev Next : At-loop-s → Type 0
 Next c =
     let l = c.loop-s in
     let a = c.args in
     Writing (differences 0 (slots_of a.set.words)) a.buf.now l.buf l.at
     (number (l.s.slot - l.last) ∷ differences l.s.slot (select (has a.set.words) (l.s.slot + 1) (slot_count - (l.s.slot + 1))) ∷ [])
 
-next : (c : goal.In-loop-s invariant-loop decreases-loop) → Next c.before.before
+next : (c : In-loop-s) → Next c.before.before
 next c =
     let l = c.loop-s in
     run_next (has c.args.set.words) l.last l.s.slot slot_count (omega arith) (l.invariant.2 (omega arith)) l.invariant.4
@@ -47,7 +48,7 @@ loop-s-preserved c =
     let l = c.loop-s in
     let e = c.after-s.ensures l.invariant.3 in
     let ws = c.args.set.words in
-    let w = put_at_lem (next c.before.before.before.before.before.before) c.put_number_at-at.ensures in
+    let w = put_at_lem (next c.before.before.before.before.before.before.before) c.put_number_at-at.ensures in
     let ahead = next_ahead ws (l.s.slot + 1) c.after-s.result.slot (omega arith) e.0 in
     (e.0.0, omega (arith, ahead), λ h. (e.0.2 h).1, e.1, rw (next_skips ws (l.s.slot + 1) c.after-s.result.slot (omega arith) e.0) at w)
 

@@ -10,13 +10,14 @@ use Rattle.tables.specs.View.{view_lists, Sizes}
 use Rattle.tables.specs.Changes.{view_entry}
 use Rattle.tables.proofs.Viewing.{view_slots, view_slot, view_set}
 use Rattle.tables.proofs.Replacing.{part, part_all, part_more}
+use Rattle.tables.proofs.changing.vacate.Goals.{After-sized, Start}
 use Rattle.tables.proofs.changing.vacate.Goals as goal
 
 -- the slots that the tables stand for at first
-abbrev slots : goal.Start invariant-loop decreases-loop → List SlotState
+abbrev slots : Start → List SlotState
 slots c = let a = c.args in view_lists a.target.now a.holder.now a.waiting.now
 
-slots_length : (c : goal.After-sized invariant-loop decreases-loop) → length (slots c.before.before.before.before) ≡ slot_count
+slots_length : (c : After-sized) → length (slots c.before) ≡ slot_count
 slots_length c =
     let a = c.args in
     let n = c.sized.ensures in
@@ -38,12 +39,12 @@ loop-i-preserved c =
     let nw : length (set l.waiting l.i r.waiting) ≡ slot_count = simp length-set l.invariant.2.2 in (
       omega arith,
       view_set l.target l.holder l.waiting l.i r
-          ∙ part_more (vacated p) (slots x) (view_lists l.target l.holder l.waiting) l.i r free_slot l.invariant.1 (omega (arith, slots_length c.before.before.before.before.before.before)) q,
+          ∙ part_more (vacated p) (slots x) (view_lists l.target l.holder l.waiting) l.i r free_slot l.invariant.1 (omega (arith, slots_length c.before.before.before.before.before.before.before.before.before)) q,
       (nt, nh, nw),
     )
 
 pub returns : goal.returns
 returns c =
-    let x = c.before.before.before.before.before.before in
+    let x = c.before.before.before in
     let l = c.loop-i in
     l.invariant.1 ∙ part_all (vacated x.args.p.0) l.i (slots x) (omega (arith, slots_length c.before.before))

@@ -4,15 +4,16 @@ use lib.ListN.{length}
 use Rattle.tables.proofs.SetSteps.{sets_wait, sets_revoke, sets_claim}
 use borrow.Author.Rules.{rules}
 use Rattle.slots.specs.Set.{word_count}
+use Rattle.tables.proofs.gathering.PlaceSets.advance.Goals.{Start}
 use Rattle.tables.proofs.gathering.PlaceSets.advance.Goals as goal
 
-revoking-length : (c : goal.Start) → length c.args.self.revoking.words ≡ word_count
+revoking-length : (c : Start) → length c.args.self.revoking.words ≡ word_count
 revoking-length c = search rules
 
-strays-length : (c : goal.After-difference-strays) → length c.difference-strays.result.words ≡ word_count
+strays-length : (c : Start) → length c.difference-strays.result.words ≡ word_count
 strays-length c = search rules
 
-claimed-length : (c : goal.After-union-claimed) → length c.union-claimed.result.words ≡ word_count
+claimed-length : (c : Start) → length c.union-claimed.result.words ≡ word_count
 claimed-length c = search rules
 
 pub returns-then-both : goal.returns-then-both
@@ -20,7 +21,7 @@ returns-then-both c =
     let a = c.args in
     let nil = c.is_empty-none in
     let frees = c.frees_all-frees in
-    sets_wait a.self a.given a.owned.now (revoking-length c.before.before.before.before.before.before.before.before.before) nil.result frees.result nil.ensures frees.ensures
+    sets_wait a.self a.given a.owned.now (revoking-length c.before.before.before.before.before.before.before.before.before.before) nil.result frees.result nil.ensures frees.ensures
     (sym c.both.ensures ∙ c.if-both.true)
 
 pub returns-then-is_empty : goal.returns-then-is_empty
@@ -36,11 +37,11 @@ returns-then-is_empty c =
     let after = c.union in
     let empty = c.empty in
     let idle = c.is_empty-then-is_empty in
-    sets_claim a.self a.given a.owned.now (revoking-length c.before.before.before.before.before.before.before.before.before.before.before.before.before.before.before.before.before.before.before) nil.result frees.result nil.ensures frees.ensures
+    sets_claim a.self a.given a.owned.now (revoking-length c.before.before.before.before.before.before.before.before.before.before.before.before.before.before.before.before.before.before.before.before) nil.result frees.result nil.ensures frees.ensures
     (sym c.both.ensures ∙ c.if-both.false)
-    strays.result (strays-length c.before.before.before.before.before.before.before.before.before) strays.ensures none.result none.ensures c.if-is_empty.true
+    strays.result (strays-length c.before.before.before.before.before.before.before.before.before.before.before.before.before.before.before.before.before.before.before.before) strays.ensures none.result none.ensures c.if-is_empty.true
     outside.result regained.result claimed.result after.result empty.result idle.result c.either.result
-    outside.ensures regained.ensures claimed.ensures after.ensures empty.ensures (claimed-length c.before.before.before.before) idle.ensures c.either.ensures
+    outside.ensures regained.ensures claimed.ensures after.ensures empty.ensures (claimed-length c.before.before.before.before.before.before.before.before.before.before.before.before.before.before.before.before.before.before.before.before) idle.ensures c.either.ensures
 
 pub returns : goal.returns
 returns c =
@@ -49,7 +50,7 @@ returns c =
     let frees = c.frees_all-frees in
     let strays = c.difference-strays in
     let none = c.is_empty in
-    sets_revoke a.self a.given a.owned.now (revoking-length c.before.before.before.before.before.before.before.before.before.before.before.before.before) nil.result frees.result nil.ensures frees.ensures
+    sets_revoke a.self a.given a.owned.now (revoking-length c.before.before.before.before.before.before.before.before.before.before.before.before.before.before) nil.result frees.result nil.ensures frees.ensures
     (sym c.both.ensures ∙ c.if-both.false)
-    strays.result (strays-length c.before.before.before) strays.ensures none.result none.ensures c.if-is_empty.false
+    strays.result (strays-length c.before.before.before.before.before.before.before.before.before.before.before.before.before.before) strays.ensures none.result none.ensures c.if-is_empty.false
     c.difference-2.result c.difference-2.ensures
