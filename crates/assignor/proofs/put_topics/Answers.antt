@@ -29,7 +29,7 @@ turn c =
 
 -- they are written
 stored : (c : After-list-1) → let i = c in let l = i.loop-t in let a = i.args in
-    Wrote (entries_of a.order.now a.subscriptions.now a.counts.now l.t) (take (length l.out - l.at) (drop l.at l.out)) c.put_topic-at.new.0 c.put_topic-at.result
+    Wrote (entries_of a.order.now a.subscriptions.now a.counts.now l.t) (take (length l.out - l.at) (drop l.at l.out)) c.put_topic-at.new.out c.put_topic-at.result
 unfolding entries_of
 stored c = rw (c.partitions_of-n.ensures, c.list_subscribers-k.ensures.front) at c.put_topic-at.ensures
 

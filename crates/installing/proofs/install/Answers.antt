@@ -15,6 +15,9 @@ use Rattle.group.specs.View.{view_with}
 use Rattle.group.specs.Parts.{TargetParts, Holding, view_target_parts}
 use Rattle.events.proofs.Carrying.{took_refused, same_refused}
 use Rattle.installing.proofs.Installs.{install_short, install_stale, install_already, install_bad, install_step}
+use Rattle.installing.proofs.install.Lts as lts
+use Rattle.installing.proofs.install.Reads as reads
+use Rattle.installing.proofs.install.Tie as tie
 use Rattle.installing.proofs.install.Goals.{Start}
 use Rattle.installing.proofs.install.Goals as goal
 
@@ -23,24 +26,24 @@ abbrev had : Start → TargetParts
 had s = let a = s.args in record { head = a.head.now; members = a.members.now; counts = a.topic_counts.now; target = a.target.now }
 
 -- the rows that do not apply
-whole : (c : Start) → eqb (length c.args.entries.now) slot_count ≡ true
+whole : (c : (lts.Else1 tie.the-claims reads.Pre reads.Post)) → eqb (length c.args.entries.now) slot_count ≡ true
 whole c = eq-eqb _ _ c.if-entries-ne-SLOTS.false
 
 -- the machine's copy of the epoch is the epoch
-told : (c : Start) (h : Holding) → let s = c in c.is_epoch.result ≡ is_epoch s.args.epoch (view_target_parts h (had s)).epoch
+told : (c : (lts.After-is_epoch tie.the-claims reads.Pre reads.Post)) (h : Holding) → let s = c.before.before.before.before.before.before.before in c.is_epoch.result ≡ is_epoch s.args.epoch (view_target_parts h (had s)).epoch
 unfolding view_target_parts view_with
 told c h = let s = c in c.is_epoch.ensures ∙ ap (λ (z : ℤ). is_epoch z (get_or s.args.head.now 0 0)) (to_z-of_z s.ranges.epoch)
 
-current : (c : Start) (h : Holding) → let s = c in is_epoch s.args.epoch (view_target_parts h (had s)).epoch ≡ true
-current c h = sym (told c h) ∙ not_is_false _ c.if-not-is_epoch.false-raw
+current : (c : (lts.Else2 tie.the-claims reads.Pre reads.Post)) (h : Holding) → let s = c.before.before.before.before.before.before.before.before in is_epoch s.args.epoch (view_target_parts h (had s)).epoch ≡ true
+current c h = sym (told c.before h) ∙ not_is_false _ c.if-not-is_epoch.false-raw
 
-pending : (c : Start) (h : Holding) → let g = view_target_parts h (had c) in eqb g.target_epoch g.epoch ≡ false
+pending : (c : (lts.Else3 tie.the-claims reads.Pre reads.Post)) (h : Holding) → let g = view_target_parts h (had c.before.before.before.before.before.before.before.before.before.before) in eqb g.target_epoch g.epoch ≡ false
 unfolding view_target_parts view_with
 pending c h = ne_eqb _ _ c.if-head-current.false
 
-bad_is : (c : Start) (h : Holding) → c.first_bad-bad.result ≡ first_bad c.args.rule (view_target_parts h (had c)) c.args.entries.now
+bad_is : (c : (lts.After-first_bad tie.the-claims reads.Pre reads.Post)) (h : Holding) → c.first_bad-bad.result ≡ first_bad c.args.rule (view_target_parts h (had c.before.before.before.before.before.before.before.before.before.before.before)) c.args.entries.now
 unfolding view_target_parts view_with
-bad_is c h = c.first_bad-bad.ensures (view_target_parts h (had c)) h.ids refl refl
+bad_is c h = c.first_bad-bad.ensures (view_target_parts h (had c.before.before.before.before.before.before.before.before.before.before.before)) h.ids refl refl
 
 pub returns-then-entries-ne-SLOTS : goal.returns-then-entries-ne-SLOTS
 returns-then-entries-ne-SLOTS c =
@@ -67,7 +70,7 @@ returns-then-not-is_epoch c =
       λ h.
           let g = view_target_parts h (had s) in
           took_refused e g a.records.now l
-          ∙ sym (install_stale g a.rule a.epoch a.entries.now a.records.now l (whole c.before.before.before.before.before.before.before.before.before.before) (sym (told c.before.before.before.before.before.before.before.before.before.before h) ∙ not_is_true _ c.if-not-is_epoch.true-raw)),
+          ∙ sym (install_stale g a.rule a.epoch a.entries.now a.records.now l (whole c.before.before.before.before.before.before) (sym (told c.before.before.before h) ∙ not_is_true _ c.if-not-is_epoch.true-raw)),
     )
 
 pub bounds-head-1 : goal.bounds-head-1
@@ -84,7 +87,7 @@ returns-then-head-current c =
       λ h.
           let g = view_target_parts h (had s) in
           took_refused e g a.records.now l
-          ∙ sym (install_already g a.rule a.epoch a.entries.now a.records.now l (whole c.before.before.before.before.before.before.before.before.before.before.before.before) (current c.before.before.before.before.before.before.before.before.before.before.before.before h) (eq-eqb _ _ c.if-head-current.true)),
+          ∙ sym (install_already g a.rule a.epoch a.entries.now a.records.now l (whole c.before.before.before.before.before.before.before.before) (current c.before.before.before.before h) (eq-eqb _ _ c.if-head-current.true)),
     )
 
 pub returns-then-bad-lt-SLOTS : goal.returns-then-bad-lt-SLOTS
@@ -97,7 +100,7 @@ returns-then-bad-lt-SLOTS c =
       λ h.
           let g = view_target_parts h (had s) in
           took_refused e g a.records.now l
-          ∙ sym (install_bad g a.rule a.epoch a.entries.now a.records.now l (whole c.before.before.before.before.before.before.before.before.before.before.before.before.before.before) (current c.before.before.before.before.before.before.before.before.before.before.before.before.before.before h) (pending c.before.before.before.before.before.before.before.before.before.before.before.before.before.before h) (bad_is c.before.before.before.before.before.before.before.before.before.before.before.before.before.before h) c.if-bad-lt-SLOTS.true),
+          ∙ sym (install_bad g a.rule a.epoch a.entries.now a.records.now l (whole c.before.before.before.before.before.before.before.before.before.before) (current c.before.before.before.before.before.before h) (pending c.before.before.before.before h) (bad_is c.before.before.before h) c.if-bad-lt-SLOTS.true),
     )
 
 pub install_at-requires : goal.install_at-requires
@@ -113,5 +116,5 @@ returns c =
       λ h.
           let g = view_target_parts h (had s) in
           (e l).1 h
-          ∙ sym (install_step g a.rule a.epoch a.entries.now a.records.now l (whole c.before.before.before.before.before.before.before.before.before.before.before.before.before.before.before.before.before.before.before) (current c.before.before.before.before.before.before.before.before.before.before.before.before.before.before.before.before.before.before.before h) (pending c.before.before.before.before.before.before.before.before.before.before.before.before.before.before.before.before.before.before.before h) (bad_is c.before.before.before.before.before.before.before.before.before.before.before.before.before.before.before.before.before.before.before h) c.if-bad-lt-SLOTS.false),
+          ∙ sym (install_step g a.rule a.epoch a.entries.now a.records.now l (whole c.before.before.before.before.before.before.before.before.before.before.before.before.before.before.before) (current c.before.before.before.before.before.before.before.before.before.before.before h) (pending c.before.before.before.before.before.before.before.before.before h) (bad_is c.before.before.before.before.before.before.before.before h) c.if-bad-lt-SLOTS.false),
     )

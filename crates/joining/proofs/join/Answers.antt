@@ -18,6 +18,9 @@ use Rattle.events.proofs.Carrying.{took_refused, same_refused}
 use Rattle.events.proofs.Lent.{goes_back_is}
 use Rattle.joining.specs.Joining.{has_place, Chooses, Ready}
 use Rattle.joining.proofs.JoinRows.{row_clock, row_invalid, row_full, row_end, join_step, known_place, joins_there, at_end_is, members_are, known_in_columns, named_id}
+use Rattle.joining.proofs.join.Lts as lts
+use Rattle.joining.proofs.join.Reads as reads
+use Rattle.joining.proofs.join.Tie as tie
 use Rattle.joining.proofs.join.Goals.{Start}
 use Rattle.joining.proofs.join.Goals as goal
 
@@ -33,34 +36,34 @@ request s = request_of s.args.b s.args.owned.now
 
 -- ---- the rows that do not apply
 
-in_time : (c : Start) (ts : List (Option G.Topic)) → goes_back (group ts c.before.before.before.before.before.before.before.before.before.before.before) (request c).tick ≡ false
+in_time : (c : (lts.Else1 tie.the-claims reads.Pre reads.Post)) (ts : List (Option G.Topic)) → goes_back (group ts c.before.before.before.before.before.before.before.before.before.before.before) (request c.before.before.before.before.before.before.before).tick ≡ false
 unfolding request_of
-in_time c ts = sym (goes_back_is ts (had c) _) ∙ sym c.goes_back.ensures ∙ c.if-goes_back.false
+in_time c ts = sym (goes_back_is ts (had c.before.before.before.before.before.before.before) _) ∙ sym c.goes_back.ensures ∙ c.if-goes_back.false
 
-well_formed : (c : Start) → (malformed (request c) || lacking (request c)) ≡ false
+well_formed : (c : (lts.Else2 tie.the-claims reads.Pre reads.Post)) → (malformed (request c.before.before.before.before.before.before.before.before.before) || lacking (request c.before.before.before.before.before.before.before.before.before)) ≡ false
 well_formed c = sym c.is_bad_join.ensures ∙ c.if-is_bad_join.false
 
 -- ---- the place
 
-chooses : (c : Start) (ts : List (Option G.Topic)) → Chooses (group ts c.before.before.before.before.before.before.before.before.before.before.before.before.before.before.before.before) (request c) c.choose_place-choice.result
+chooses : (c : (lts.After-choose_place tie.the-claims reads.Pre reads.Post)) (ts : List (Option G.Topic)) → Chooses (group ts c.before.before.before.before.before.before.before.before.before.before.before.before.before.before.before.before) (request c.before.before.before.before.before.before.before.before.before.before.before) c.choose_place-choice.result
 unfolding request_of
-chooses c ts = let s = c in c.choose_place-choice.ensures (group ts s) (request s) (members_are ts (had s)) refl
+chooses c ts = let s = c.before.before.before.before.before.before.before.before.before.before.before in c.choose_place-choice.ensures (group ts s) (request s) (members_are ts (had s)) refl
 
-chosen : (c : Start) (ts : List (Option G.Topic)) → let s = c in Hit (has_place (group ts s) (request s).id) (join_place (group ts s) (request s)) c.found-1.given.0.0.0
-chosen c ts = hit c.found-1.given.1 (chooses c ts).place_is
+chosen : (c : (lts.After-found tie.the-claims reads.Pre reads.Post)) (ts : List (Option G.Topic)) → let s = c.before.before.before.before.before.before.before.before.before.before.before.before.before in Hit (has_place (group ts s) (request s).id) (join_place (group ts s) (request s)) c.found-1.given.0.0.0
+chosen c ts = hit c.found-1.given.1 (chooses c.before.before ts).place_is
 
 -- ---- the needs
 
 -- the seat at the place of a known member has its ID, whatever the topics are
-ready : (c : Start) → let s = c in Ready (had s) c.found-1.given.0.0.0 c.choose_place-choice.result.known s.args.b.id
+ready : (c : (lts.Else3 tie.the-claims reads.Pre reads.Post)) → let s = c.before.before.before.before.before.before.before.before.before.before.before.before.before.before.before.before.before in Ready (had s) c.found-1.given.0.0.0 c.choose_place-choice.result.known s.args.b.id
 unfolding request_of
 ready c =
-    let s = c in
+    let s = c.before.before.before.before.before.before.before.before.before.before.before.before.before.before.before.before.before in
     let ts = [] in
     record {
-      rises = sym c.at_end_lem.ensures ∙ c.if-at_end.false;
-      named = named_id (request s) (well_formed c);
-      own = λ k. found_same s.args.members.now s.args.b.id (known_in_columns ts (had s) s.args.b.id (known_place (group ts s) (request s) (chooses c ts).known_is (chosen c ts) k));
+      rises = sym c.at_end.ensures ∙ c.if-at_end.false;
+      named = named_id (request s) (well_formed c.before.before.before.before.before.before.before.before);
+      own = λ k. found_same s.args.members.now s.args.b.id (known_in_columns ts (had s) s.args.b.id (known_place (group ts s) (request s) (chooses c.before.before.before.before.before.before ts).known_is (chosen c.before.before.before.before ts) k));
     }
 
 pub bounds-head-2 : goal.bounds-head-2
@@ -91,7 +94,7 @@ returns-then-is_bad_join c =
       same_refused e (had s),
       λ ts.
           took_refused e (group ts s) b l
-          ∙ sym (row_invalid (group ts s) (request s) b l (in_time c.before.before.before.before.before.before.before.before.before.before.before ts) (sym c.is_bad_join.ensures ∙ c.if-is_bad_join.true)),
+          ∙ sym (row_invalid (group ts s) (request s) b l (in_time c.before.before.before.before ts) (sym c.is_bad_join.ensures ∙ c.if-is_bad_join.true)),
     )
 
 pub returns-in_default : goal.returns-in_default
@@ -103,7 +106,7 @@ returns-in_default c =
       same_refused e (had s),
       λ ts.
           took_refused e (group ts s) b l
-          ∙ sym (row_full (group ts s) (request s) b l (in_time c.before.before.before.before.before.before.before.before.before.before.before.before.before.before.before ts) (well_formed c.before.before.before.before.before.before.before.before.before.before.before.before.before.before.before) (miss _ c.enum_told-1.given.1 (chooses c.before.before.before.before.before.before.before.before.before.before.before.before.before.before.before ts).place_is)),
+          ∙ sym (row_full (group ts s) (request s) b l (in_time c.before.before.before.before.before.before.before.before ts) (well_formed c.before.before.before.before.before.before) (miss _ c.before.enum_told-1.given.1 (chooses c.before.before.before.before ts).place_is)),
     )
 
 pub returns-then-at_end : goal.returns-then-at_end
@@ -115,8 +118,8 @@ returns-then-at_end c =
       same_refused e (had s),
       λ ts.
           took_refused e (group ts s) b l
-          ∙ sym (row_end (group ts s) (request s) b l (in_time c.before.before.before.before.before.before.before.before.before.before.before.before.before.before.before.before.before.before.before ts) (well_formed c.before.before.before.before.before.before.before.before.before.before.before.before.before.before.before.before.before.before.before) (chosen c.before.before.before.before.before.before.before.before.before.before.before.before.before.before.before.before.before.before.before ts).found
-          (sym (at_end_is ts (had s)) ∙ sym c.at_end_lem.ensures ∙ c.if-at_end.true)),
+          ∙ sym (row_end (group ts s) (request s) b l (in_time c.before.before.before.before.before.before.before.before.before.before.before.before ts) (well_formed c.before.before.before.before.before.before.before.before.before.before) (chosen c.before.before.before.before.before.before ts).found
+          (sym (at_end_is ts (had s)) ∙ sym c.at_end.ensures ∙ c.if-at_end.true)),
     )
 
 pub returns : goal.returns
@@ -125,10 +128,10 @@ returns c =
     let e = c.join_at.ensures s.args.owned.now in
     let b = s.args.records.now in
     λ l. (
-      (e l (ready c.before.before.before.before.before.before.before.before.before.before.before.before.before.before.before.before.before.before.before.before.before.before.before.before.before.before.before)).0,
+      (e l (ready c.before.before.before.before.before.before.before.before.before.before)).0,
       λ ts.
-          let at = chosen c.before.before.before.before.before.before.before.before.before.before.before.before.before.before.before.before.before.before.before.before.before.before.before.before.before.before.before ts in
-          (e l (ready c.before.before.before.before.before.before.before.before.before.before.before.before.before.before.before.before.before.before.before.before.before.before.before.before.before.before.before)).1 ts
-          ∙ joins_there (group ts s) (request s) b l (chooses c.before.before.before.before.before.before.before.before.before.before.before.before.before.before.before.before.before.before.before.before.before.before.before.before.before.before.before ts).known_is at.first
-          ∙ sym (join_step (group ts s) (request s) b l (in_time c.before.before.before.before.before.before.before.before.before.before.before.before.before.before.before.before.before.before.before.before.before.before.before.before.before.before.before ts) (well_formed c.before.before.before.before.before.before.before.before.before.before.before.before.before.before.before.before.before.before.before.before.before.before.before.before.before.before.before) at.found (sym (at_end_is ts (had s)) ∙ sym c.at_end_lem.ensures ∙ c.if-at_end.false)),
+          let at = chosen c.before.before.before.before.before.before.before.before.before.before.before.before.before.before ts in
+          (e l (ready c.before.before.before.before.before.before.before.before.before.before)).1 ts
+          ∙ joins_there (group ts s) (request s) b l (chooses c.before.before.before.before.before.before.before.before.before.before.before.before.before.before.before.before ts).known_is at.first
+          ∙ sym (join_step (group ts s) (request s) b l (in_time c.before.before.before.before.before.before.before.before.before.before.before.before.before.before.before.before.before.before.before.before ts) (well_formed c.before.before.before.before.before.before.before.before.before.before.before.before.before.before.before.before.before.before) at.found (sym (at_end_is ts (had s)) ∙ sym c.at_end.ensures ∙ c.if-at_end.false)),
     )

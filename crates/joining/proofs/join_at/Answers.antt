@@ -21,6 +21,9 @@ use Rattle.group.proofs.Rows.{raised_below}
 use Rattle.events.proofs.Carrying.{same_refused}
 use Rattle.joining.specs.Joining.{Ready, metadata_in}
 use Rattle.joining.proofs.JoinRows.{join_no_room, join_done}
+use Rattle.joining.proofs.join_at.Lts as lts
+use Rattle.joining.proofs.join_at.Reads as reads
+use Rattle.joining.proofs.join_at.Tie as tie
 use Rattle.joining.proofs.join_at.Goals.{Start}
 use Rattle.joining.proofs.join_at.Goals as goal
 
@@ -30,22 +33,22 @@ had s = let a = s.args in parts a.head.now a.members.now a.target.now a.holder.n
 
 -- ---- what went into the records
 
-epoch_is : (c : Start) → leb last_epoch (get_or (had c).head 0 0) ≡ false → c.raised_epoch-epoch.result ≡ suc (get_or (had c).head 0 0)
+epoch_is : (c : (lts.After-raised_epoch tie.the-claims reads.Pre reads.Post)) → leb last_epoch (get_or (had c.before.before.before.before.before).head 0 0) ≡ false → c.raised_epoch-epoch.result ≡ suc (get_or (had c.before.before.before.before.before).head 0 0)
 epoch_is c h = c.raised_epoch-epoch.ensures ∙ raised_below _ h
 
-aimed-is : (c : Start) → let g = had c in c.has_target-aimed.result ≡ any (targeted c.args.p.0) (view_lists g.target g.holder g.waiting)
+aimed-is : (c : (lts.After-has_target tie.the-claims reads.Pre reads.Post)) → let g = had c.before.before.before.before.before.before.before in c.has_target-aimed.result ≡ any (targeted c.args.p.0) (view_lists g.target g.holder g.waiting)
 aimed-is c = let w = c.whole.ensures in c.has_target-aimed.ensures _ _ (w.target_long, w.holder_long, w.waiting_long)
 
-retargets-is : (c : Start) → let s = c in let g = had s in c.both-retargets.result ≡ (s.args.known && any (targeted s.args.p.0) (view_lists g.target g.holder g.waiting))
-retargets-is c = c.both-retargets.ensures ∙ ap (λ (x : Bool). c.args.known && x) (aimed-is c)
+retargets-is : (c : (lts.After-both tie.the-claims reads.Pre reads.Post)) → let s = c.before.before.before.before.before.before.before.before in let g = had s in c.both-retargets.result ≡ (s.args.known && any (targeted s.args.p.0) (view_lists g.target g.holder g.waiting))
+retargets-is c = c.both-retargets.ensures ∙ ap (λ (x : Bool). c.args.known && x) (aimed-is c.before)
 
 -- ---- the seat
 
-seat_is : (c : Start) → let s = c in let m = c.metadata_of-metadata.result in Ready (had s) s.args.p.0 s.args.known s.args.b.id
+seat_is : (c : (lts.After-seat_of tie.the-claims reads.Pre reads.Post)) → let s = c.before.before.before.before.before.before.before.before.before.before.before.before.before.before.before in let m = c.metadata_of-metadata.result in Ready (had s) s.args.p.0 s.args.known s.args.b.id
     → c.seat_of-seat.result ≡ joined_as m.id c.raised_epoch-epoch.result m.subscription m.timeout s.args.b.tick
 seat_is c ready = c.seat_of-seat.ensures (λ k. subst (λ (x : MemberMetadata). (seat_at c.args.members.now x.place.0).id ≡ x.id) (sym c.metadata_of-metadata.ensures) (ready.own k))
 
-named : (c : Start) → let s = c in Ready (had s) s.args.p.0 s.args.known s.args.b.id → zero_id c.seat_of-seat.result.id ≡ false
+named : (c : (lts.After-seat_of tie.the-claims reads.Pre reads.Post)) → let s = c.before.before.before.before.before.before.before.before.before.before.before.before.before.before.before in Ready (had s) s.args.p.0 s.args.known s.args.b.id → zero_id c.seat_of-seat.result.id ≡ false
 named c ready = ap zero_id (ap (λ (x : Seat). x.id) (seat_is c ready) ∙ ap (λ (m : MemberMetadata). m.id) c.metadata_of-metadata.ensures) ∙ ready.named
 
 -- ---- the needs
@@ -62,7 +65,7 @@ returns-then-records-size c =
       same_refused e (had s),
       λ ts.
           join_no_room ts (had s) a.p a.known a.b owned
-          (epoch_is c.before.before.before.before.before.before.before.before.before.before.before.before ready.rises) c.metadata_of-metadata.ensures (retargets-is c.before.before.before.before.before.before.before.before.before.before.before.before) a.records.now l
+          (epoch_is c.before.before.before.before.before.before.before ready.rises) c.metadata_of-metadata.ensures (retargets-is c.before.before.before.before) a.records.now l
           (omega (arith, c.join_records_len-size.ensures.0, c.if-records-size.true)) e,
     )
 
@@ -77,12 +80,12 @@ returns c =
     let s = c.before.before.before.before.before.before.before.before.before.before.before.before.before.before.before.before.before.before.before.before.before.before in
     let a = s.args in
     let t = c.vacate.new in
-    let after = parts (set (set a.head.now 0 c.raised_epoch-epoch.result) 2 a.b.tick) c.put.new.0 t.0 t.1.0 t.1.1.0 in
+    let after = parts (set (set a.head.now 0 c.raised_epoch-epoch.result) 2 a.b.tick) c.put.new.members t.0 t.1.0 t.1.1.0 in
     λ owned l ready. (
       tt,
       λ ts.
           join_done ts (had s) a.p a.known a.b owned
-          (epoch_is c.before.before.before.before.before.before.before.before.before.before.before.before.before.before.before.before.before.before.before.before.before.before ready.rises) c.metadata_of-metadata.ensures (retargets-is c.before.before.before.before.before.before.before.before.before.before.before.before.before.before.before.before.before.before.before.before.before.before) a.records.now l after
-          (omega (arith, c.join_records_len-size.ensures.0, c.if-records-size.false)) (seat_is c.before.before.before.before.before.before.before.before.before.before.before.before.before.before.before.before.before.before.before.before.before.before ready) c.whole.ensures.head_long refl
-          (c.put.ensures (named c.before.before.before.before.before.before.before.before.before.before.before.before.before.before.before.before.before.before.before.before.before.before ready)) (c.vacate.ensures (aimed-is c.before.before.before.before.before.before.before.before.before.before.before.before.before.before.before.before.before.before.before.before.before.before)) c.put_join_records-written.ensures,
+          (epoch_is c.before.before.before.before.before.before.before.before.before.before.before.before.before.before.before.before.before ready.rises) c.metadata_of-metadata.ensures (retargets-is c.before.before.before.before.before.before.before.before.before.before.before.before.before.before) a.records.now l after
+          (omega (arith, c.join_records_len-size.ensures.0, c.if-records-size.false)) (seat_is c.before.before.before.before.before.before.before ready) c.whole.ensures.head_long refl
+          (c.put.ensures (named c.before.before.before.before.before.before.before ready)) (c.vacate.ensures (aimed-is c.before.before.before.before.before.before.before.before.before.before.before.before.before.before.before)) c.put_join_records-written.ensures,
     )

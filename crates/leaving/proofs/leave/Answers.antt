@@ -15,6 +15,9 @@ use Rattle.events.specs.Outcomes.{carried, request_of}
 use Rattle.events.proofs.Carrying.{took_refused, same_refused}
 use Rattle.events.proofs.Lent.{goes_back_is, known_in}
 use Rattle.leaving.proofs.LeaveRows.{row_clock, row_zero, row_unknown, leave_step}
+use Rattle.leaving.proofs.leave.Lts as lts
+use Rattle.leaving.proofs.leave.Reads as reads
+use Rattle.leaving.proofs.leave.Tie as tie
 use Rattle.leaving.proofs.leave.Goals.{Start}
 use Rattle.leaving.proofs.leave.Goals as goal
 
@@ -23,11 +26,11 @@ abbrev had : Start → Parts
 had s = let a = s.args in parts a.head.now a.members.now a.target.now a.holder.now a.waiting.now
 
 -- row 1001 does not apply
-forward : (c : Start) (ts : List (Option Topic)) → let s = c in goes_back (view_parts ts (had s)) s.args.b.tick ≡ false
-forward c ts = let s = c in sym (goes_back_is ts (had s) s.args.b.tick) ∙ sym c.goes_back.ensures ∙ c.if-goes_back.false
+forward : (c : (lts.Else1 tie.the-claims reads.Pre reads.Post)) (ts : List (Option Topic)) → let s = c.before.before.before.before.before.before.before in goes_back (view_parts ts (had s)) s.args.b.tick ≡ false
+forward c ts = let s = c.before.before.before.before.before.before.before in sym (goes_back_is ts (had s) s.args.b.tick) ∙ sym c.goes_back.ensures ∙ c.if-goes_back.false
 
 -- nor does row 42
-nonzero : (c : Start) → zero_id c.args.b.id ≡ false
+nonzero : (c : (lts.Else2 tie.the-claims reads.Pre reads.Post)) → zero_id c.args.b.id ≡ false
 nonzero c = sym c.is_zero.ensures ∙ c.if-is_zero.false
 
 pub bounds-head-2 : goal.bounds-head-2
@@ -58,7 +61,7 @@ returns-then-is_zero c =
       λ ts.
           let g = view_parts ts (had s) in
           took_refused e g a.records.now l
-          ∙ sym (row_zero g (request_of a.b owned) a.records.now l (forward c.before.before.before.before.before.before.before.before.before.before.before ts) (sym c.is_zero.ensures ∙ c.if-is_zero.true)),
+          ∙ sym (row_zero g (request_of a.b owned) a.records.now l (forward c.before.before.before.before ts) (sym c.is_zero.ensures ∙ c.if-is_zero.true)),
     )
 
 pub returns-in-At : goal.returns-in-At
@@ -71,10 +74,10 @@ returns-in-At c =
       (e l).0,
       λ ts.
           let g = view_parts ts (had s) in
-          let h = hit c.found-1.given.1 (known_in ts (had s) _ _ c.find-found.ensures) in
+          let h = hit c.before.found-1.given.1 (known_in ts (had s) _ _ c.find-found.ensures) in
           (e l).1 ts
           ∙ ap (λ (p : ℕ). carried g (leave_at g p a.b.tick) a.records.now l) (sym h.first)
-          ∙ sym (leave_step g (request_of a.b owned) a.records.now l (forward c.before.before.before.before.before.before.before.before.before.before.before.before.before.before.before.before.before.before.before.before.before.before.before ts) (nonzero c.before.before.before.before.before.before.before.before.before.before.before.before.before.before.before.before.before.before.before.before.before.before.before) h.found),
+          ∙ sym (leave_step g (request_of a.b owned) a.records.now l (forward c.before.before.before.before.before.before.before.before.before.before.before.before.before.before.before.before ts) (nonzero c.before.before.before.before.before.before.before.before.before.before.before.before.before.before) h.found),
     )
 
 pub returns-in-Nowhere : goal.returns-in-Nowhere
@@ -88,6 +91,6 @@ returns-in-Nowhere c =
       λ ts.
           let g = view_parts ts (had s) in
           took_refused e g a.records.now l
-          ∙ sym (row_unknown g (request_of a.b owned) a.records.now l (forward c.before.before.before.before.before.before.before.before.before.before.before.before.before.before ts) (nonzero c.before.before.before.before.before.before.before.before.before.before.before.before.before.before)
-          (miss _ c.enum_told-1.given.1 (known_in ts (had s) _ _ c.find-found.ensures))),
+          ∙ sym (row_unknown g (request_of a.b owned) a.records.now l (forward c.before.before.before.before.before.before.before ts) (nonzero c.before.before.before.before.before)
+          (miss _ c.before.enum_told-1.given.1 (known_in ts (had s) _ _ c.find-found.ensures))),
     )

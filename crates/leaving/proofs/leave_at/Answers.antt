@@ -14,6 +14,9 @@ use Rattle.events.specs.declared.Outcome.{Outcome}
 use Rattle.events.proofs.Carrying.{same_refused}
 use Rattle.events.proofs.Storing.{too_long, stored}
 use Rattle.leaving.proofs.LeaveRows.{leave_records_lem, leave_group}
+use Rattle.leaving.proofs.leave_at.Lts as lts
+use Rattle.leaving.proofs.leave_at.Reads as reads
+use Rattle.leaving.proofs.leave_at.Tie as tie
 use Rattle.leaving.proofs.leave_at.Goals.{Start}
 use Rattle.leaving.proofs.leave_at.Goals as goal
 
@@ -21,18 +24,18 @@ use Rattle.leaving.proofs.leave_at.Goals as goal
 abbrev had : Start → Parts
 had s = let a = s.args in parts a.head.now a.members.now a.target.now a.holder.now a.waiting.now
 
-abbrev start : Start → Start
+abbrev start : (lts.After-leave_records_len tie.the-claims reads.Pre reads.Post) → Start
 start c = c.before.before.before.before.before.before.before.before.before.before.before.before.before
 
 -- the records are those of the effect
-recorded : (c : Start) (ts : List (Option Topic))
-    → leave_records (start c).args.p.0 c.has_target-retargets.result (not c.at_end_lem.result) c.raised_epoch-epoch.result
+recorded : (c : (lts.After-leave_records_len tie.the-claims reads.Pre reads.Post)) (ts : List (Option Topic))
+    → leave_records (start c).args.p.0 c.has_target-retargets.result (not c.at_end-raises.result) c.raised_epoch-epoch.result
     ≡ (leave_at (view_parts ts (had (start c))) (start c).args.p.0 (start c).args.tick).records
 recorded c ts =
     let s = start c in
     let w = c.whole.ensures in
     leave_records_lem ts (had s) s.args.p.0 s.args.tick c.raised_epoch-epoch.ensures
-    (c.has_target-retargets.ensures _ _ (w.target_long, w.holder_long, w.waiting_long)) (ap not c.at_end_lem.ensures)
+    (c.has_target-retargets.ensures _ _ (w.target_long, w.holder_long, w.waiting_long)) (ap not c.at_end-raises.ensures)
 
 pub bounds-head-0 : goal.bounds-head-0
 bounds-head-0 c = omega (arith, c.whole.ensures.head_long)
@@ -44,7 +47,7 @@ returns-then-records-size c =
     let e = c.refused.ensures in
     λ l. (
       same_refused e (had s),
-      λ ts. too_long (leave_at (view_parts ts (had s)) a.p.0 a.tick) (recorded c.before.before.before.before.before.before.before.before.before.before.before ts) a.records.now l (view_parts ts (had s))
+      λ ts. too_long (leave_at (view_parts ts (had s)) a.p.0 a.tick) (recorded c.before.before.before ts) a.records.now l (view_parts ts (had s))
           (omega (arith, c.leave_records_len-size.ensures.0, c.if-records-size.true)) e,
     )
 
@@ -62,10 +65,10 @@ returns c =
     let put = c.put_leave_records-written in
     let r : Outcome = record { answer = Left; written = put.result } in
     let t = c.vacate-2.new in
-    let after = parts (set (set a.head.now 0 c.raised_epoch-epoch.result) 2 a.tick) c.vacate.new.0 t.0 t.1.0 t.1.1.0 in
+    let after = parts (set (set a.head.now 0 c.raised_epoch-epoch.result) 2 a.tick) c.vacate.new.members t.0 t.1.0 t.1.1.0 in
     λ l. (
       tt,
-      λ ts. stored (leave_at (view_parts ts (had s)) a.p.0 a.tick) (recorded c.before.before.before.before.before.before.before.before.before.before.before.before.before.before.before.before.before.before.before.before ts) a.records.now l (view_parts ts (had s)) r (view_parts ts after) refl
+      λ ts. stored (leave_at (view_parts ts (had s)) a.p.0 a.tick) (recorded c.before.before.before.before.before.before.before.before.before.before.before.before ts) a.records.now l (view_parts ts (had s)) r (view_parts ts after) refl
           (omega (arith, c.leave_records_len-size.ensures.0, c.if-records-size.false)) refl
           (leave_group ts (had s) a.p.0 a.tick c.raised_epoch-epoch.ensures after c.whole.ensures.head_long refl c.vacate.ensures.members c.vacate-2.ensures)
           put.ensures,

@@ -41,6 +41,6 @@ returns c =
       λ ts.
           let g = view_parts ts (entry s) in
           (e l).1 ts
-          ∙ ap (λ (ps : List ℕ). carried g (sweep_of g ps a.tick) a.records.now l) (c.overdue_places_lem.ensures ts a.head.now a.target.now (w.target_long, w.holder_long, w.waiting_long))
+          ∙ ap (λ (ps : List ℕ). carried g (sweep_of g ps a.tick) a.records.now l) (c.overdue_places-gone.ensures ts a.head.now a.target.now (w.target_long, w.holder_long, w.waiting_long))
           ∙ sym (sweep_step g a.tick a.records.now l (sym (goes_back_is ts (entry s) a.tick) ∙ sym c.goes_back.ensures ∙ c.if-goes_back.false)),
     )

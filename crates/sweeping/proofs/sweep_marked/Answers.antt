@@ -17,6 +17,9 @@ use Rattle.events.proofs.Carrying.{same_refused}
 use Rattle.events.proofs.Storing.{too_long, stored}
 use Rattle.sweeping.specs.Marks.{marked, marked_records}
 use Rattle.sweeping.proofs.SweepRows.{sweep_nobody, sweep_records_lem, sweep_group}
+use Rattle.sweeping.proofs.sweep_marked.Lts as lts
+use Rattle.sweeping.proofs.sweep_marked.Reads as reads
+use Rattle.sweeping.proofs.sweep_marked.Tie as tie
 use Rattle.sweeping.proofs.sweep_marked.Goals.{Start}
 use Rattle.sweeping.proofs.sweep_marked.Goals as goal
 
@@ -27,20 +30,20 @@ entry c = let a = c.args in parts a.head.now a.members.now a.target.now a.holder
 abbrev swept : Start → List (Option Topic) → Effect
 swept c ts = sweep_of (view_parts ts (entry c)) (marked c.args.gone.now) c.args.tick
 
-abbrev start : Start → Start
+abbrev start : (lts.After-sweep_len tie.the-claims reads.Pre reads.Post) → Start
 start c = c.before.before.before.before.before.before.before.before.before.before.before.before.before.before.before.before
 
-some_go : (c : Start) → 1 ≤ length (marked (start c).args.gone.now)
+some_go : (c : (lts.After-sweep_len tie.the-claims reads.Pre reads.Post)) → 1 ≤ length (marked (start c).args.gone.now)
 some_go c = omega (arith, c.count_marks-count.ensures, c.if-count-eq0.false)
 
 -- what the code stores is what the effect does
-recorded : (c : Start) (ts : List (Option Topic))
-    → (marked_records (start c).args.gone.now c.target_places-targets.result ++ only_if (not c.at_end_lem.result) (group_epoch c.raised_epoch-epoch.result)) ≡ (swept (start c) ts).records
+recorded : (c : (lts.After-sweep_len tie.the-claims reads.Pre reads.Post)) (ts : List (Option Topic))
+    → (marked_records (start c).args.gone.now c.target_places-targets.result ++ only_if (not c.at_end-raises.result) (group_epoch c.raised_epoch-epoch.result)) ≡ (swept (start c) ts).records
 recorded c ts =
     let a = (start c).args in
     let w = c.whole.ensures in
     sweep_records_lem ts (entry (start c)) a.gone.now a.tick (some_go c) c.raised_epoch-epoch.ensures c.target_places-targets.result
-    (c.target_places-targets.ensures a.holder.now a.waiting.now (w.target_long, w.holder_long, w.waiting_long)) (ap not c.at_end_lem.ensures)
+    (c.target_places-targets.ensures a.holder.now a.waiting.now (w.target_long, w.holder_long, w.waiting_long)) (ap not c.at_end-raises.ensures)
 
 pub bounds-head-2 : goal.bounds-head-2
 bounds-head-2 c = omega (arith, c.whole.ensures.head_long)
@@ -58,7 +61,7 @@ returns-then-records-size c =
     let s = c.before.before.before.before.before.before.before.before.before.before.before.before.before.before in
     λ l. (
       same_refused c.refused.ensures (entry s),
-      λ ts. too_long (swept s ts) (recorded c.before.before.before.before.before.before.before.before.before.before.before.before.before.before ts) s.args.records.now l (view_parts ts (entry s)) (omega (arith, c.sweep_len-size.ensures, c.if-records-size.true)) c.refused.ensures,
+      λ ts. too_long (swept s ts) (recorded c.before.before.before ts) s.args.records.now l (view_parts ts (entry s)) (omega (arith, c.sweep_len-size.ensures, c.if-records-size.true)) c.refused.ensures,
     )
 
 pub put_sweep-written-requires : goal.put_sweep-written-requires
@@ -70,7 +73,7 @@ bounds-head-0-2 c = let x = c in omega (arith, x.whole.ensures.head_long)
 pub returns : goal.returns
 unfolding sweep_of
 returns c =
-    let x = c.before.before.before.before.before.before.before.before.before.before.before.before.before.before.before.before.before.before.before.before.before.before.before in
+    let x = c.before.before.before.before.before.before.before.before.before.before.before.before in
     let s = start x in
     let a = s.args in
     let count = x.count_marks-count in

@@ -15,11 +15,13 @@ use Rattle.events.specs.Outcomes.{request_of}
 use Rattle.events.proofs.Carrying.{took_refused, same_refused}
 use Rattle.events.proofs.Lent.{goes_back_is}
 use Rattle.coordinator.proofs.ByKind.{invalid_clock, invalid_epoch}
-use Rattle.coordinator.proofs.heartbeats.refuse_epoch.Goals.{Start}
+use Rattle.coordinator.proofs.heartbeats.refuse_epoch.Lts as lts
+use Rattle.coordinator.proofs.heartbeats.refuse_epoch.Reads as reads
+use Rattle.coordinator.proofs.heartbeats.refuse_epoch.Tie as tie
 use Rattle.coordinator.proofs.heartbeats.refuse_epoch.Goals as goal
 
 -- the test of the clock, of whatever group has this head
-goes-back-in : (c : Start) (g : Parts) (topics : List (Option Topic)) → g.head ≡ c.args.head.now → c.goes_back.result ≡ goes_back (view_parts topics g) c.args.b.tick
+goes-back-in : (c : (lts.After-goes_back tie.the-claims reads.Pre reads.Post)) (g : Parts) (topics : List (Option Topic)) → g.head ≡ c.args.head.now → c.goes_back.result ≡ goes_back (view_parts topics g) c.args.b.tick
 goes-back-in c g topics e =
     c.goes_back.ensures ∙ ap (λ (h : List ℕ). leb clock_limit (elapsed c.args.b.tick (get_or h 2 0))) (sym e) ∙ goes_back_is topics g c.args.b.tick
 
@@ -29,7 +31,7 @@ returns-then-goes_back c = λ g owned buffer l e. (
   same_refused c.refused.ensures g,
   λ topics.
       took_refused c.refused.ensures (view_parts topics g) buffer l
-      ∙ sym (invalid_clock (view_parts topics g) (request_of c.args.b owned) buffer l (sym (goes-back-in c.before.before.before.before.before.before g topics e) ∙ c.if-goes_back.true)),
+      ∙ sym (invalid_clock (view_parts topics g) (request_of c.args.b owned) buffer l (sym (goes-back-in c.before.before.before g topics e) ∙ c.if-goes_back.true)),
 )
 
 pub returns : goal.returns
@@ -38,5 +40,5 @@ returns c = λ g owned buffer l e. (
   same_refused c.refused-2.ensures g,
   λ topics.
       took_refused c.refused-2.ensures (view_parts topics g) buffer l
-      ∙ sym (invalid_epoch (view_parts topics g) (request_of c.args.b owned) buffer l (sym (goes-back-in c.before.before.before.before.before.before g topics e) ∙ c.if-goes_back.false)),
+      ∙ sym (invalid_epoch (view_parts topics g) (request_of c.args.b owned) buffer l (sym (goes-back-in c.before.before.before g topics e) ∙ c.if-goes_back.false)),
 )

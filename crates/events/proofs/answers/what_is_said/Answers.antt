@@ -32,5 +32,5 @@ returns-in-Done c = sym (ap said c.enum_told-in-Done-1.given.1)
 
 pub returns-in-Refused : goal.returns-in-Refused
 returns-in-Refused c =
-    (λ i. record { number = c.number_of_lem.ensures i; interval = 0; epoch = pos 0; count = 0; slot = c.slot_reported.ensures i })
+    (λ i. record { number = c.number_of.ensures i; interval = 0; epoch = pos 0; count = 0; slot = c.slot_reported.ensures i })
     ∙ sym (ap said c.a-in-Refused-1.given.1)

@@ -10,6 +10,9 @@ use Prim.Native.Nat.{ℕ, ◌+◌, ◌-◌, ◌*◌, ◌≤◌, ◌<◌}
 use native.Mathlib.Omega.{arith}
 use mathlib.Core.Path.{◌≡◌, refl, sym, ap, ◌∙◌}
 use borrow.Author.Rules.{rules}
+use Rattle.frames.proofs.framing.put_entry.Lts as lts
+use Rattle.frames.proofs.framing.put_entry.Reads as reads
+use Rattle.frames.proofs.framing.put_entry.Tie as tie
 use Rattle.frames.proofs.framing.put_entry.Goals.{Start}
 use Rattle.frames.proofs.framing.put_entry.Goals as goal
 
@@ -19,20 +22,20 @@ After k c buf at = let a = c.args in Writing (entry a.records.now) a.buf.now buf
 s₀ : (c : Start) → After 0 c c.args.buf.now 0
 s₀ c = begin _ _ _ (entry_parts c.args.records.now c.args.n c.requires.0 c.requires.1) c.requires.2
 
-s₁ : (c : Start) → After 1 c c.put_number_at-at.new.0 c.put_number_at-at.result
-s₁ c = put_at_lem (s₀ c) c.put_number_at-at.ensures
+s₁ : (c : (lts.After-put_number_at tie.the-claims reads.Pre reads.Post)) → After 1 c.before.before.before.before c.put_number_at-at.new.buf c.put_number_at-at.result
+s₁ c = put_at_lem (s₀ c.before.before.before.before) c.put_number_at-at.ensures
 
-s₂ : (c : Start) → After 2 c c.put_bytes_at.new.0 c.put_bytes_at.result
-s₂ c = put_at_lem (s₁ c) c.put_bytes_at.ensures
+s₂ : (c : (lts.After-put_bytes_at tie.the-claims reads.Pre reads.Post)) → After 2 c.before.before.before.before.before.before.before.before c.put_bytes_at.new.buf c.put_bytes_at.result
+s₂ c = put_at_lem (s₁ c.before.before.before.before) c.put_bytes_at.ensures
 
 pub put_number_at-at-requires : goal.put_number_at-at-requires
 put_number_at-at-requires c = room_at (s₀ c.before.before.before.before)
 
 pub put_bytes_at-requires : goal.put_bytes_at-requires
-put_bytes_at-requires c = room_at (s₁ c.before.before.before.before.before.before.before.before)
+put_bytes_at-requires c = room_at (s₁ c.before.before.before.before)
 
 pub shape_of-buf : goal.shape_of-buf
-shape_of-buf c = same_len (s₂ c.before.before.before.before.before.before.before.before.before.before.before)
+shape_of-buf c = same_len (s₂ c.before.before.before)
 
 pub returns : goal.returns
-returns c = ended (s₂ c.before.before.before.before.before.before.before.before.before.before.before) refl
+returns c = ended (s₂ c.before.before.before) refl

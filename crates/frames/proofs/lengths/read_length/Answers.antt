@@ -10,7 +10,7 @@ pub returns-then-s-at : goal.returns-then-s-at
 returns-then-s-at c = none_left _ _ c.if-s-at.true
 
 pub second_group-requires : goal.second_group-requires
-second_group-requires c = omega (arith, c.wide-b.ensures, c.shared_slice_known-2-1.given c.args.at)
+second_group-requires c = omega (arith, c.wide-b.ensures, c.before.shared_slice_known-2-1.given c.args.at)
 
 pub returns-then-b-ge128 : goal.returns-then-b-ge128
 returns-then-b-ge128 c = let a = c.args in let e = c.wide-b.ensures in from_second c.second_group.result (rw (long_length a.s.now a.at (omega arith) (omega arith), ← e) c.second_group.ensures)

@@ -6,11 +6,13 @@ use Rattle.rules.specs.Constants.{max_partitions}
 use Rattle.rules.specs.Group.{includes_topic}
 use Rattle.group.specs.Entries.{entry_bad, slot_exists}
 use Rattle.group.proofs.Installing.{no_slot, none_subscribed}
-use Rattle.group.proofs.entries.is_bad_entry.Goals.{Else-topic-ge-TOPICS}
+use Rattle.group.proofs.entries.is_bad_entry.Lts as lts
+use Rattle.group.proofs.entries.is_bad_entry.Reads as reads
+use Rattle.group.proofs.entries.is_bad_entry.Tie as tie
 use Rattle.group.proofs.entries.is_bad_entry.Goals as goal
 
 -- past the second test the slot exists
-here : (c : Else-topic-ge-TOPICS) → let a = c.args in slot_exists a.counts.now a.slot ≡ true
+here : (c : (lts.Else2 tie.the-claims reads.Pre reads.Post)) → let a = c.args in slot_exists a.counts.now a.slot ≡ true
 unfolding slot_exists
 here c = lt-ltb _ _ c.if-counts-topic.false
 
@@ -28,7 +30,7 @@ returns-then-counts-topic c = no_slot _ _ _ _ _ (le-ltb _ _ c.if-counts-topic.tr
 
 pub returns-then-entry-eq-NO_PLACE : goal.returns-then-entry-eq-NO_PLACE
 unfolding entry_bad includes_topic
-returns-then-entry-eq-NO_PLACE c = rw (eq-eqb _ _ c.if-entry-eq-NO_PLACE.true, here c.before.before.before.before.before)
+returns-then-entry-eq-NO_PLACE c = rw (eq-eqb _ _ c.if-entry-eq-NO_PLACE.true, here c.before.before)
 
 pub returns-then-place-ge-MEMBERS : goal.returns-then-place-ge-MEMBERS
 unfolding entry_bad
@@ -40,4 +42,4 @@ returns-then-place-ge-MEMBERS c =
 
 pub returns : goal.returns
 unfolding entry_bad includes_topic
-returns c = rw (ne_eqb _ _ c.if-entry-eq-NO_PLACE.false, here c.before.before.before.before.before.before.before.before)
+returns c = rw (ne_eqb _ _ c.if-entry-eq-NO_PLACE.false, here c.before.before.before.before.before)

@@ -3,4 +3,4 @@ use Rattle.std.proofs.Common.{rules}
 use Rattle.group.proofs.members.fit.Goals as goal
 
 pub returns-then-words-gt0 : goal.returns-then-words-gt0
-returns-then-words-gt0 c = λ k q. (c.shared_slice_known-1.given k).fits
+returns-then-words-gt0 c = λ k q. (c.before.shared_slice_known-1.given k).fits

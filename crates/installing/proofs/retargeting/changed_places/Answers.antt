@@ -15,7 +15,7 @@ pub bounds-after-s : goal.bounds-after-s
 bounds-after-s c = omega (arith, c.requires)
 
 pub loop-s-preserved-then-old-new : goal.loop-s-preserved-then-old-new
-loop-s-preserved-then-old-new c = (omega arith, mark_both _ _ c.mark.new.0 c.mark-then-old-new.new.0 c.loop-s.invariant.1 c.if-old-new.true c.mark.ensures c.mark-then-old-new.ensures)
+loop-s-preserved-then-old-new c = (omega arith, mark_both _ _ c.mark.new.marks c.mark-then-old-new.new.marks c.loop-s.invariant.1 c.if-old-new.true c.mark.ensures c.mark-then-old-new.ensures)
 
 pub loop-s-preserved : goal.loop-s-preserved
 loop-s-preserved c = (omega arith, mark_skip _ _ c.loop-s.invariant.1 c.if-old-new.false)

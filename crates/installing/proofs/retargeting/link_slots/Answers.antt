@@ -22,7 +22,7 @@ pub bounds-target-s : goal.bounds-target-s
 bounds-target-s c = omega (arith, c.if-target-ne-SLOTS.false)
 
 pub overflow_cast-p : goal.overflow_cast-p
-overflow_cast-p c = omega (arith, c.shared_slice_known-1.given (c.loop-s.s - 1))
+overflow_cast-p c = omega (arith, c.before.shared_slice_known-1.given (c.loop-s.s - 1))
 
 pub bounds-firsts-p : goal.bounds-firsts-p
 bounds-firsts-p c = omega (arith, c.loop-s.invariant.1.firsts_long)

@@ -18,10 +18,12 @@ use Rattle.tables.proofs.Stepping.{advances}
 use Rattle.tables.proofs.Moving.{written}
 use Rattle.ordinary.specs.Plans.{member_next}
 use Rattle.ordinary.proofs.Stepping.{plan_is}
-use Rattle.ordinary.proofs.plan.make_plan.Goals.{Start}
+use Rattle.ordinary.proofs.plan.make_plan.Lts as lts
+use Rattle.ordinary.proofs.plan.make_plan.Reads as reads
+use Rattle.ordinary.proofs.plan.make_plan.Tie as tie
 use Rattle.ordinary.proofs.plan.make_plan.Goals as goal
 
-revoking-length : (c : Start) → length c.gather-sets.result.revoking.words ≡ word_count
+revoking-length : (c : (lts.After-gather tie.the-claims reads.Pre reads.Post)) → length c.gather-sets.result.revoking.words ≡ word_count
 revoking-length c = search rules
 
 pub returns : goal.returns
@@ -35,7 +37,7 @@ returns c = λ g vs-is ge gt sent.
     let next = c.next_member-next in
     let given = owned_of a.b.has_list a.owned.now in
     let gs = subst (λ (v : List SlotState). Gathers p v sets.result) (sym vs-is) sets.ensures in
-    let adv = advances p g.slots len (omega (arith, sent.below)) sets.result (revoking-length c.before.before.before.before.before.before.before.before.before.before.before.before.before.before.before.before.before) gs given step.result step.ensures in
+    let adv = advances p g.slots len (omega (arith, sent.below)) sets.result (revoking-length c.before.before.before.before.before.before.before.before.before.before.before.before) gs given step.result step.ensures in
     plan_is g a.b a.owned.now a.s.place a.s.seat sets.result step.result sent.own len gs adv
     next.result (next.ensures ∙ ap (member_next a.s.seat sets.result step.result a.b) (sym gt))
     (written p g.slots given step.result adv _ refl)

@@ -30,7 +30,7 @@ returns c = λ q.
       same_subscription =
           ap (λ (x : ℕ). default x (if a.b.has_subscription then some a.b.subscription else none)) (sym s)
           ∙ sym c.subscription_or.ensures ∙ c.if-subscription_or-subscription.false ∙ s;
-      same_timeout = ap (timeout_or a.b.timeout) (sym t) ∙ sym (c.timeout_or_lem.ensures ∙ ap (λ (x : _). timeout_or x c.timeout_at-timeout.result) (to_z-of_z f)) ∙ c.if-timeout_or-timeout.false ∙ t;
+      same_timeout = ap (timeout_or a.b.timeout) (sym t) ∙ sym (c.timeout_or.ensures ∙ ap (λ (x : _). timeout_or x c.timeout_at-timeout.result) (to_z-of_z f)) ∙ c.if-timeout_or-timeout.false ∙ t;
       quiet = c.is_quiet.ensures q;
     }
 
