@@ -1,6 +1,6 @@
 -- The slots that the three tables stand for, and the tables as a contract names those that are lent.
 use Rattle.std.specs.Prelude.{ℕ, ◌≡◌, Bool, List, [], ◌∷◌, length}
-use Rattle.std.specs.Borrow.{Bor}
+use Rattle.std.specs.Borrow.{MutBor}
 use denote.Triple.Both.{Both}
 use Rattle.rules.specs.Constants.{slot_count}
 use Rattle.rules.specs.Group.{SlotState}
@@ -18,7 +18,7 @@ Sizes ts hs ws = (length ts ≡ slot_count) × (length hs ≡ slot_count) × (le
 -- ---- lent tables, at entry and at exit
 
 abbrev pub Lent : Type 0 → Type 0
-Lent A = Both (Bor (List A)) (Bor (List A))
+Lent A = Both (MutBor (List A)) (MutBor (List A))
 
 abbrev pub slots_before : Lent ℕ → Lent ℕ → Lent Bool → List SlotState
 slots_before t h w = view_lists t.entry.now h.entry.now w.entry.now
