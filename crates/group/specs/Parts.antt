@@ -3,7 +3,7 @@ use Rattle.std.specs.Prelude.{◌≡◌, ℕ, Bool, List, length}
 use Rattle.std.proofs.Math.Option.{Option}
 use Rattle.rules.specs.Constants.{slot_count}
 use Rattle.rules.specs.Group as G
-use Rattle.tables.specs.View.{Lent}
+use Rattle.tables.specs.View.{Lent, Shared}
 use Rattle.group.specs.Columns.{cell_count}
 use Rattle.group.specs.View.{view_topics, view_with}
 
@@ -54,10 +54,10 @@ pub record Tables : Type 0 where
 unfoldable pub view_topic_parts : Tables → TopicParts → G.Group
 view_topic_parts t g = view_with (view_topics g.ids g.counts) g.head g.members t.target t.holder t.waiting
 
-abbrev pub topics_before : Lent ℕ → Lent ℕ → Lent ℕ → Lent ℕ → TopicParts
+abbrev pub topics_before : Lent ℕ → Shared ℕ → Lent ℕ → Lent ℕ → TopicParts
 topics_before h m i c = record { head = h.entry.now; members = m.entry.now; ids = i.entry.now; counts = c.entry.now }
 
-abbrev pub topics_after : Lent ℕ → Lent ℕ → Lent ℕ → Lent ℕ → TopicParts
+abbrev pub topics_after : Lent ℕ → Shared ℕ → Lent ℕ → Lent ℕ → TopicParts
 topics_after h m i c = record { head = h.exit.now; members = m.exit.now; ids = i.exit.now; counts = c.exit.now }
 
 -- ---- what an install is lent: neither the topics' IDs nor who holds what
@@ -79,8 +79,8 @@ pub record Holding : Type 0 where
 unfoldable pub view_target_parts : Holding → TargetParts → G.Group
 view_target_parts h g = view_with (view_topics h.ids g.counts) g.head g.members g.target h.holder h.waiting
 
-abbrev pub target_before : Lent ℕ → Lent ℕ → Lent ℕ → Lent ℕ → TargetParts
+abbrev pub target_before : Lent ℕ → Shared ℕ → Shared ℕ → Lent ℕ → TargetParts
 target_before h m c t = record { head = h.entry.now; members = m.entry.now; counts = c.entry.now; target = t.entry.now }
 
-abbrev pub target_after : Lent ℕ → Lent ℕ → Lent ℕ → Lent ℕ → TargetParts
+abbrev pub target_after : Lent ℕ → Shared ℕ → Shared ℕ → Lent ℕ → TargetParts
 target_after h m c t = record { head = h.exit.now; members = m.exit.now; counts = c.exit.now; target = t.exit.now }

@@ -6,7 +6,7 @@
 ghost use Rattle.std.specs.Prelude.{◌≡◌};
 ghost use Rattle.rules.specs.Group.{fresh};
 ghost use Rattle.group.specs.View.{view};
-ghost use Rattle.group.specs.Parts.{before, Whole};
+ghost use Rattle.group.specs.Parts.{parts, Whole};
 
 use rules::{ID_LENGTH, Id, MEMBERS, NO_PLACE, Place, SLOTS, TOPICS};
 pub use search::CELLS;
@@ -112,7 +112,7 @@ pub fn whole<'a>(
     holder: &'a [u8; SLOTS],
     waiting: &'a [bool; SLOTS],
 )
-    ensures { Whole (before head members target holder waiting) }
+    ensures { Whole (parts head.now members.now target.now holder.now waiting.now) }
 {
     let h: &[u32] = head;
     let m: &[u32] = members;

@@ -1,7 +1,7 @@
 // What an ordinary heartbeat comes to, decided before anything is written. The tables are gathered once, by one pass.
 ghost use Rattle.std.specs.Prelude.{◌≡◌};
 ghost use Rattle.rules.specs.Basics.{default};
-ghost use Rattle.tables.specs.View.{slots_before};
+ghost use Rattle.tables.specs.View.{view_lists};
 ghost use Rattle.events.specs.Outcomes.{given_subscription};
 ghost use Rattle.ordinary.specs.Plans.{stepped_by, member_next, Plans};
 
@@ -83,7 +83,7 @@ pub fn make_plan<'a>(
     b: Request,
     owned: &'a [u16],
 ) -> Plan
-    ensures { Plans (slots_before target holder waiting) group_epoch target_epoch s b owned.now result }
+    ensures { Plans (view_lists target.now holder.now waiting.now) group_epoch target_epoch s b owned.now result }
 {
     tables::sized(target, holder, waiting);
     let seat = s.seat;

@@ -2,7 +2,7 @@
 ghost use Rattle.std.specs.Prelude.{◌≡◌, true, ◌≤◌, length};
 ghost use Rattle.rules.specs.Constants.{slot_count};
 ghost use Rattle.rules.specs.Step.{overlay};
-ghost use Rattle.tables.specs.View.{slots_before};
+ghost use Rattle.tables.specs.View.{view_lists};
 ghost use Rattle.group.specs.Columns.{seat_at};
 ghost use Rattle.ordinary.specs.Plans.{Calm, Heard};
 
@@ -26,7 +26,7 @@ pub fn is_calm<'a>(
     owned: &'a [u16],
     room: usize,
 ) -> bool
-    ensures { result ≡ true → Calm (seat_at members.now p.0) p.0 e target_epoch (slots_before target holder waiting) b owned.now room }
+    ensures { result ≡ true → Calm (seat_at members.now p.0) p.0 e target_epoch (view_lists target.now holder.now waiting.now) b owned.now room }
 {
     if !b.has_list {
         return false;

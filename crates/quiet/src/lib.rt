@@ -6,7 +6,7 @@ ghost use Rattle.std.specs.Prelude.{◌≡◌, true, ◌+◌, ◌≤◌};
 ghost use Rattle.rules.specs.Basics.{if◌then◌else◌};
 ghost use Rattle.rules.specs.Constants.{slot_count};
 ghost use Rattle.rules.specs.Refusals.{is_slot_set};
-ghost use Rattle.tables.specs.View.{slots_before};
+ghost use Rattle.tables.specs.View.{view_lists};
 ghost use Rattle.quiet.specs.Settling.{part_length, near_count, settled_slot, AllSettled, Quiet};
 
 use rules::{Place, SLOTS};
@@ -94,7 +94,7 @@ pub fn is_quiet<'a>(
     p: Place,
     list: &'a [u16],
 ) -> bool
-    ensures { result ≡ true → Quiet p.0 (slots_before target holder waiting) list.now }
+    ensures { result ≡ true → Quiet p.0 (view_lists target.now holder.now waiting.now) list.now }
 {
     tables::sized(target, holder, waiting);
     if rising::is_slot_set(list) {

@@ -1,6 +1,6 @@
 -- The slots that the three tables stand for, and the tables as a contract names those that are lent.
 use Rattle.std.specs.Prelude.{ℕ, ◌≡◌, Bool, List, [], ◌∷◌, length}
-use Rattle.std.specs.Borrow.{MutBor}
+use Rattle.std.specs.Borrow.{Bor, MutBor}
 use denote.Triple.Both.{Both}
 use Rattle.rules.specs.Constants.{slot_count}
 use Rattle.rules.specs.Group.{SlotState}
@@ -15,10 +15,13 @@ view_lists (t ∷ ts) (h ∷ hs) (w ∷ ws) = record { target = t; holder = h; w
 abbrev pub Sizes : List ℕ → List ℕ → List Bool → Type 0
 Sizes ts hs ws = (length ts ≡ slot_count) × (length hs ≡ slot_count) × (length ws ≡ slot_count)
 
--- ---- lent tables, at entry and at exit
+-- ---- lent tables, at entry and at exit: to be changed, or to be read alone
 
 abbrev pub Lent : Type 0 → Type 0
 Lent A = Both (MutBor (List A)) (MutBor (List A))
+
+abbrev pub Shared : Type 0 → Type 0
+Shared A = Both (Bor (List A)) (Bor (List A))
 
 abbrev pub slots_before : Lent ℕ → Lent ℕ → Lent Bool → List SlotState
 slots_before t h w = view_lists t.entry.now h.entry.now w.entry.now

@@ -1,5 +1,5 @@
 // What one pass over the tables tells of a place, as sets of slots.
-ghost use Rattle.tables.specs.View.{slots_before};
+ghost use Rattle.tables.specs.View.{view_lists};
 ghost use Rattle.tables.specs.Gathers.{Gathers};
 
 use crate::bools::both;
@@ -22,7 +22,7 @@ pub fn gather<'a>(
     waiting: &'a [bool; SLOTS],
     p: Place,
 ) -> PlaceSets
-    ensures { Gathers p.0 (slots_before target holder waiting) result }
+    ensures { Gathers p.0 (view_lists target.now holder.now waiting.now) result }
 {
     crate::sized(target, holder, waiting);
     let mut assigned: [u64; WORDS] = [0; WORDS];
