@@ -11,4 +11,4 @@ returns c =
     let fd : w.d < 4294967296 = search rules in
     let fr : c.wrapping_sub_u32.result < 4294967296 = search rules in
     first_is w.a w.b w.c w.d c.wrapping_sub_u32-two.result c.wrapping_sub_u32-three.result c.wrapping_sub_u32.result
-    fb fc fd fr c.wrapping_sub_u32-two.ensures c.wrapping_sub_u32-three.ensures c.wrapping_sub_u32.ensures
+    fb fc fd fr c.wrapping_sub_u32-two.ensures.value c.wrapping_sub_u32-three.ensures.value c.wrapping_sub_u32.ensures.value

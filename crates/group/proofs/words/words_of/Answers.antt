@@ -11,5 +11,5 @@ returns c =
     let second = c in
     let f : (k : ℕ) → k < id_length → get_or id k 0 < 256 = λ k q. let g : Fits w8 (get_or id k 0) = search rules in g.fits in
     summed id n f second.word-b.ensures c.word-c.ensures c.word-d.ensures
-    (c.wrapping_add_u32-two.ensures ∙ ap (λ (w : ℕ). (w + second.word-b.result) % 4294967296) second.word-w.ensures)
-    c.wrapping_add_u32-three.ensures c.wrapping_add_u32.ensures
+    (c.wrapping_add_u32-two.ensures.value ∙ ap (λ (w : ℕ). (w + second.word-b.result) % 4294967296) second.word-w.ensures)
+    c.wrapping_add_u32-three.ensures.value c.wrapping_add_u32.ensures.value
