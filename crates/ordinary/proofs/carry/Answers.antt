@@ -23,33 +23,32 @@ use Rattle.ordinary.specs.Plans.{planned}
 use Rattle.ordinary.proofs.carry.Lts as lts
 use Rattle.ordinary.proofs.carry.Reads as reads
 use Rattle.ordinary.proofs.carry.Tie as tie
-use Rattle.ordinary.proofs.carry.Goals.{Start}
 use Rattle.ordinary.proofs.carry.Goals as goal
 
-abbrev had : Start → Parts
+abbrev had : (lts.Start tie.the-claims reads.Pre reads.Post) → Parts
 had c = let a = c.args in parts a.head.now a.members.now a.target.now a.holder.now a.waiting.now
 
-abbrev effect : List (Option Topic) → Start → Effect
+abbrev effect : List (Option Topic) → (lts.Start tie.the-claims reads.Pre reads.Post) → Effect
 effect ts c = let a = c.args in planned (view_parts ts (had c)) a.p a.tick a.k
 
-size_is : (ts : List (Option Topic)) (c : (lts.After-ordinary_records_len tie.the-claims reads.Pre reads.Post)) → c.ordinary_records_len-size.result ≡ length (all_bytes (effect ts c.before.before.before.before.before.before.before.before.before.before.before.before.before).records)
+size_is : (ts : List (Option Topic)) (c : (lts.After-ordinary_records_len tie.the-claims reads.Pre reads.Post)) → c.ordinary_records_len-size.result ≡ length (all_bytes (effect ts c.before.before.before.before.before.before.before.before).records)
 unfolding planned
 size_is ts c = c.ordinary_records_len-size.ensures.0
 
-count-is : (ts : List (Option Topic)) (c : (lts.After-count tie.the-claims reads.Pre reads.Post)) → c.count-count.result ≡ length (effect ts c.before.before.before.before.before.before.before.before.before.before.before.before.before.before.before).told
+count-is : (ts : List (Option Topic)) (c : (lts.After-count tie.the-claims reads.Pre reads.Post)) → c.count-count.result ≡ length (effect ts c.before.before.before.before.before.before.before.before.before.before).told
 unfolding planned
 count-is ts c = c.count-count.ensures
 
 -- the parts after it stand for the group of the plan's effect
 group-is : (c : (lts.After-follow tie.the-claims reads.Pre reads.Post)) (ts : List (Option Topic)) → let x = c in let a = x.args in let t = c.follow.new in zero_id a.k.member.id ≡ false
-    → view_parts ts (parts (set (set a.head.now 0 a.k.epoch) 2 a.tick) c.put.new.members t.0 t.1.0 t.1.1.0) ≡ (effect ts x).group
+    → view_parts ts (parts (set (set a.head.now 0 a.k.epoch) 2 a.tick) c.put.new.members t.target t.holder t.waiting) ≡ (effect ts x.before.before.before.before.before.before.before.before.before.before.before.before.before.before.before.before.before.before.before.before.before.before.before.before.before.before).group
 unfolding planned view_parts view_with
 group-is c ts real =
     let x = c.before.before.before.before.before.before.before.before.before.before.before.before.before.before.before.before.before.before.before.before.before.before.before.before.before.before in
     let a = x.args in
     let t = c.follow.new in
     let seat = c.seat.ensures in
-    parts_changed ts (had x) (parts (set (set a.head.now 0 a.k.epoch) 2 a.tick) c.put.new.members t.0 t.1.0 t.1.1.0) a.k.epoch a.tick c.whole.ensures.head_long refl
+    parts_changed ts (had x) (parts (set (set a.head.now 0 a.k.epoch) 2 a.tick) c.put.new.members t.target t.holder t.waiting) a.k.epoch a.tick c.whole.ensures.head_long refl
     (c.put.ensures (ap (λ (s : Seat). zero_id s.id) seat ∙ real) ∙ ap (λ (s : Seat). set (view_members a.members.now) a.p.0 (some (seated s))) seat) c.follow.ensures
 
 pub returns-then-records-size : goal.returns-then-records-size
@@ -76,10 +75,10 @@ returns c = λ real.
     let t = c.follow.new in
     let put = c.put_ordinary_records-written in
     let told = c.list_slots in
-    let after = parts (set (set a.head.now 0 a.k.epoch) 2 a.tick) c.put.new.members t.0 t.1.0 t.1.1.0 in (
+    let after = parts (set (set a.head.now 0 a.k.epoch) 2 a.tick) c.put.new.members t.target t.holder t.waiting in (
       tt,
       λ ts.
-          (λ i. took (record { answer = Assigned (record { epoch = a.k.member.epoch; interval = heartbeat_interval; count = count-is ts c.before.before.before.before.before.before.before.before.before.before.before.before.before.before.before.before.before.before i }); written = put.result }) (view_parts ts after) put.new.0 told.new.0)
+          (λ i. took (record { answer = Assigned (record { epoch = a.k.member.epoch; interval = heartbeat_interval; count = count-is ts c.before.before.before.before.before.before.before.before.before.before.before.before.before.before.before.before.before.before i }); written = put.result }) (view_parts ts after) put.new.buf told.new.out)
           ∙ carried_out (effect ts x) a.records.now a.list.now (view_parts ts (had x)) (view_parts ts after)
           (omega (arith, size_is ts c.before.before.before.before.before.before.before.before.before.before.before.before.before.before.before.before.before.before.before.before, c.if-records-size.false)) (omega (arith, count-is ts c.before.before.before.before.before.before.before.before.before.before.before.before.before.before.before.before.before.before, c.if-list-count.false)) (group-is c.before.before ts real) put.ensures told.ensures.bytes,
     )

@@ -26,6 +26,6 @@ returns c =
     let a = c.args in
     let g = c.gathered-had.ensures in
     c.stepped.ensures
-    ∙ ap (stepped_by a.step a.target-epoch a.b.tick)
+    ∙ ap (stepped_by a.step a.target_epoch a.b.tick)
     (c.hear-heard.ensures
     ∙ ap (λ (m : Member). member_heard m a.b.tick) (c.store.ensures ∙ (λ i. member_stored (g i) (c.subscription_or-subscription.ensures i) (timeout-is c.before.before.before.before i))))

@@ -19,4 +19,4 @@ pub returns : goal.returns
 unfolding stepped_by
 returns c =
     let a = c.args in
-    rw (c.if-step.false, c.if-step-2.false) (c.advance.ensures ∙ ap (λ (m : Member). member_advanced m a.target-epoch a.step.assigned) c.free-free.ensures)
+    rw (c.if-step.false, c.if-step-2.false) (c.advance.ensures ∙ ap (λ (m : Member). member_advanced m a.target_epoch a.step.assigned) c.free-free.ensures)

@@ -7,10 +7,12 @@ use lib.ListN.{length, drop, get_or, drop_of_length-le}
 use lib.Seq.{drop-cons}
 use Rattle.rules.specs.Step.{overlay}
 use Rattle.numbers.proofs.Writing.{Writing, begin, to_go₁, same_len, put_one, ended}
-use Rattle.ordinary.proofs.quick.copy_list.Goals.{In-loop-i}
+use Rattle.ordinary.proofs.quick.copy_list.Lts as lts
+use Rattle.ordinary.proofs.quick.copy_list.Reads as reads
+use Rattle.ordinary.proofs.quick.copy_list.Tie as tie
 use Rattle.ordinary.proofs.quick.copy_list.Goals as goal
 
-next : (c : In-loop-i) → let l = c.loop-i in let a = c.args in Writing a.from.now a.to.now l.to l.i ((get_or a.from.now l.i 0 ∷ drop (l.i + 1) a.from.now) ∷ [])
+next : (c : (lts.In-loop reads.Pre reads.Post goal.the-invariant-loop-i goal.the-decreases-loop-i)) → let l = c.loop-i in let a = c.args in Writing a.from.now a.to.now l.to l.i ((get_or a.from.now l.i 0 ∷ drop (l.i + 1) a.from.now) ∷ [])
 next c =
     let l = c.loop-i in
     let a = c.args in
@@ -23,7 +25,7 @@ pub loop-i-init : goal.loop-i-init
 loop-i-init c = (omega arith, begin _ _ _ (append-nil _) (omega arith))
 
 pub offset_bounds-from-i : goal.offset_bounds-from-i
-offset_bounds-from-i c = let s = next c in omega (arith, to_go₁ s, same_len s, s.fits)
+offset_bounds-from-i c = let s = next c.before in omega (arith, to_go₁ s, same_len s, s.fits)
 
 pub offset_bounds-to-i : goal.offset_bounds-to-i
 offset_bounds-to-i c = let s = next c.before.before in omega (arith, to_go₁ s, same_len s, s.fits)
