@@ -21,22 +21,21 @@ use Rattle.joining.proofs.JoinRows.{row_clock, row_invalid, row_full, row_end, j
 use Rattle.joining.proofs.join.Lts as lts
 use Rattle.joining.proofs.join.Reads as reads
 use Rattle.joining.proofs.join.Tie as tie
-use Rattle.joining.proofs.join.Goals.{Start}
 use Rattle.joining.proofs.join.Goals as goal
 
 -- the parts at entry, the group that they are of, and the request
-abbrev had : Start → Parts
+abbrev had : (lts.Start tie.the-claims reads.Pre reads.Post) → Parts
 had s = let a = s.args in parts a.head.now a.members.now a.target.now a.holder.now a.waiting.now
 
-abbrev group : List (Option G.Topic) → Start → G.Group
+abbrev group : List (Option G.Topic) → (lts.Start tie.the-claims reads.Pre reads.Post) → G.Group
 group ts s = view_parts ts (had s)
 
-abbrev request : Start → E.Request
+abbrev request : (lts.Start tie.the-claims reads.Pre reads.Post) → E.Request
 request s = request_of s.args.b s.args.owned.now
 
 -- ---- the rows that do not apply
 
-in_time : (c : (lts.Else1 tie.the-claims reads.Pre reads.Post)) (ts : List (Option G.Topic)) → goes_back (group ts c.before.before.before.before.before.before.before.before.before.before.before) (request c.before.before.before.before.before.before.before).tick ≡ false
+in_time : (c : (lts.Else1 tie.the-claims reads.Pre reads.Post)) (ts : List (Option G.Topic)) → goes_back (group ts c.before.before.before.before.before.before.before) (request c.before.before.before.before.before.before.before).tick ≡ false
 unfolding request_of
 in_time c ts = sym (goes_back_is ts (had c.before.before.before.before.before.before.before) _) ∙ sym c.goes_back.ensures ∙ c.if-goes_back.false
 
@@ -45,25 +44,25 @@ well_formed c = sym c.is_bad_join.ensures ∙ c.if-is_bad_join.false
 
 -- ---- the place
 
-chooses : (c : (lts.After-choose_place tie.the-claims reads.Pre reads.Post)) (ts : List (Option G.Topic)) → Chooses (group ts c.before.before.before.before.before.before.before.before.before.before.before.before.before.before.before.before) (request c.before.before.before.before.before.before.before.before.before.before.before) c.choose_place-choice.result
+chooses : (c : (lts.After-choose_place tie.the-claims reads.Pre reads.Post)) (ts : List (Option G.Topic)) → Chooses (group ts c.before.before.before.before.before.before.before.before.before.before.before) (request c.before.before.before.before.before.before.before.before.before.before.before) c.choose_place-choice.result
 unfolding request_of
 chooses c ts = let s = c.before.before.before.before.before.before.before.before.before.before.before in c.choose_place-choice.ensures (group ts s) (request s) (members_are ts (had s)) refl
 
-chosen : (c : (lts.After-found tie.the-claims reads.Pre reads.Post)) (ts : List (Option G.Topic)) → let s = c.before.before.before.before.before.before.before.before.before.before.before.before.before in Hit (has_place (group ts s) (request s).id) (join_place (group ts s) (request s)) c.found-1.given.0.0.0
-chosen c ts = hit c.found-1.given.1 (chooses c.before.before ts).place_is
+chosen : (c : (lts.Past-After-known_told tie.the-claims reads.Pre reads.Post)) (ts : List (Option G.Topic)) → let s = c.before.before.before.before.before.before.before.before.before.before.before.before in Hit (has_place (group ts s) (request s).id) (join_place (group ts s) (request s)) c.found-1.given.0.0.0
+chosen c ts = hit c.found-1.given.1 (chooses c.before ts).place_is
 
 -- ---- the needs
 
 -- the seat at the place of a known member has its ID, whatever the topics are
-ready : (c : (lts.Else3 tie.the-claims reads.Pre reads.Post)) → let s = c.before.before.before.before.before.before.before.before.before.before.before.before.before.before.before.before.before in Ready (had s) c.found-1.given.0.0.0 c.choose_place-choice.result.known s.args.b.id
+ready : (c : (lts.Else3 tie.the-claims reads.Pre reads.Post)) → let s = c.before.before.before.before.before.before.before.before.before.before.before.before.before.before.before in Ready (had s) c.found-1.given.0.0.0 c.choose_place-choice.result.known s.args.b.id
 unfolding request_of
 ready c =
-    let s = c.before.before.before.before.before.before.before.before.before.before.before.before.before.before.before.before.before in
+    let s = c.before.before.before.before.before.before.before.before.before.before.before.before.before.before.before in
     let ts = [] in
     record {
       rises = sym c.at_end.ensures ∙ c.if-at_end.false;
-      named = named_id (request s) (well_formed c.before.before.before.before.before.before.before.before);
-      own = λ k. found_same s.args.members.now s.args.b.id (known_in_columns ts (had s) s.args.b.id (known_place (group ts s) (request s) (chooses c.before.before.before.before.before.before ts).known_is (chosen c.before.before.before.before ts) k));
+      named = named_id (request s) (well_formed c.before.before.before.before.before.before);
+      own = λ k. found_same s.args.members.now s.args.b.id (known_in_columns ts (had s) s.args.b.id (known_place (group ts s) (request s) (chooses c.before.before.before.before ts).known_is (chosen c.before.before.before ts) k));
     }
 
 pub bounds-head-2 : goal.bounds-head-2
@@ -99,39 +98,39 @@ returns-then-is_bad_join c =
 
 pub returns-in_default : goal.returns-in_default
 returns-in_default c =
-    let s = c.before.before.before.before.before.before.before.before.before.before.before.before.before.before.before in
+    let s = c.before.before.before.before.before.before.before.before.before.before.before.before.before.before in
     let e = c.refused-in_default.ensures in
     let b = s.args.records.now in
     λ l. (
       same_refused e (had s),
       λ ts.
           took_refused e (group ts s) b l
-          ∙ sym (row_full (group ts s) (request s) b l (in_time c.before.before.before.before.before.before.before.before ts) (well_formed c.before.before.before.before.before.before) (miss _ c.before.enum_told-1.given.1 (chooses c.before.before.before.before ts).place_is)),
+          ∙ sym (row_full (group ts s) (request s) b l (in_time c.before.before.before.before.before.before.before ts) (well_formed c.before.before.before.before.before) (miss _ c.before.enum_told-1.given.1 (chooses c.before.before.before ts).place_is)),
     )
 
 pub returns-then-at_end : goal.returns-then-at_end
 returns-then-at_end c =
-    let s = c.before.before.before.before.before.before.before.before.before.before.before.before.before.before.before.before.before.before.before in
+    let s = c.before.before.before.before.before.before.before.before.before.before.before.before.before.before.before.before.before in
     let e = c.refused-then-at_end.ensures in
     let b = s.args.records.now in
     λ l. (
       same_refused e (had s),
       λ ts.
           took_refused e (group ts s) b l
-          ∙ sym (row_end (group ts s) (request s) b l (in_time c.before.before.before.before.before.before.before.before.before.before.before.before ts) (well_formed c.before.before.before.before.before.before.before.before.before.before) (chosen c.before.before.before.before.before.before ts).found
+          ∙ sym (row_end (group ts s) (request s) b l (in_time c.before.before.before.before.before.before.before.before.before.before ts) (well_formed c.before.before.before.before.before.before.before.before) (chosen c.before.before.before.before.before ts).found
           (sym (at_end_is ts (had s)) ∙ sym c.at_end.ensures ∙ c.if-at_end.true)),
     )
 
 pub returns : goal.returns
 returns c =
-    let s = c.before.before.before.before.before.before.before.before.before.before.before.before.before.before.before.before.before.before.before.before.before.before.before.before.before.before.before in
+    let s = c.before.before.before.before.before.before.before.before.before.before.before.before.before.before.before.before.before.before.before.before.before.before.before.before.before in
     let e = c.join_at.ensures s.args.owned.now in
     let b = s.args.records.now in
     λ l. (
       (e l (ready c.before.before.before.before.before.before.before.before.before.before)).0,
       λ ts.
-          let at = chosen c.before.before.before.before.before.before.before.before.before.before.before.before.before.before ts in
+          let at = chosen c.before.before.before.before.before.before.before.before.before.before.before.before.before ts in
           (e l (ready c.before.before.before.before.before.before.before.before.before.before)).1 ts
-          ∙ joins_there (group ts s) (request s) b l (chooses c.before.before.before.before.before.before.before.before.before.before.before.before.before.before.before.before ts).known_is at.first
-          ∙ sym (join_step (group ts s) (request s) b l (in_time c.before.before.before.before.before.before.before.before.before.before.before.before.before.before.before.before.before.before.before.before ts) (well_formed c.before.before.before.before.before.before.before.before.before.before.before.before.before.before.before.before.before.before) at.found (sym (at_end_is ts (had s)) ∙ sym c.at_end.ensures ∙ c.if-at_end.false)),
+          ∙ joins_there (group ts s) (request s) b l (chooses c.before.before.before.before.before.before.before.before.before.before.before.before.before.before ts).known_is at.first
+          ∙ sym (join_step (group ts s) (request s) b l (in_time c.before.before.before.before.before.before.before.before.before.before.before.before.before.before.before.before.before.before ts) (well_formed c.before.before.before.before.before.before.before.before.before.before.before.before.before.before.before.before) at.found (sym (at_end_is ts (had s)) ∙ sym c.at_end.ensures ∙ c.if-at_end.false)),
     )

@@ -24,11 +24,10 @@ use Rattle.joining.proofs.JoinRows.{join_no_room, join_done}
 use Rattle.joining.proofs.join_at.Lts as lts
 use Rattle.joining.proofs.join_at.Reads as reads
 use Rattle.joining.proofs.join_at.Tie as tie
-use Rattle.joining.proofs.join_at.Goals.{Start}
 use Rattle.joining.proofs.join_at.Goals as goal
 
 -- the parts at entry
-abbrev had : Start → Parts
+abbrev had : (lts.Start tie.the-claims reads.Pre reads.Post) → Parts
 had s = let a = s.args in parts a.head.now a.members.now a.target.now a.holder.now a.waiting.now
 
 -- ---- what went into the records
@@ -80,7 +79,7 @@ returns c =
     let s = c.before.before.before.before.before.before.before.before.before.before.before.before.before.before.before.before.before.before.before.before.before.before in
     let a = s.args in
     let t = c.vacate.new in
-    let after = parts (set (set a.head.now 0 c.raised_epoch-epoch.result) 2 a.b.tick) c.put.new.members t.0 t.1.0 t.1.1.0 in
+    let after = parts (set (set a.head.now 0 c.raised_epoch-epoch.result) 2 a.b.tick) c.put.new.members t.target t.holder t.waiting in
     λ owned l ready. (
       tt,
       λ ts.

@@ -18,11 +18,10 @@ use Rattle.leaving.proofs.LeaveRows.{row_clock, row_zero, row_unknown, leave_ste
 use Rattle.leaving.proofs.leave.Lts as lts
 use Rattle.leaving.proofs.leave.Reads as reads
 use Rattle.leaving.proofs.leave.Tie as tie
-use Rattle.leaving.proofs.leave.Goals.{Start}
 use Rattle.leaving.proofs.leave.Goals as goal
 
 -- the parts at entry
-abbrev had : Start → Parts
+abbrev had : (lts.Start tie.the-claims reads.Pre reads.Post) → Parts
 had s = let a = s.args in parts a.head.now a.members.now a.target.now a.holder.now a.waiting.now
 
 -- row 1001 does not apply
@@ -67,7 +66,7 @@ returns-then-is_zero c =
 pub returns-in-At : goal.returns-in-At
 unfolding request_of
 returns-in-At c =
-    let s = c.before.before.before.before.before.before.before.before.before.before.before.before.before.before.before.before.before.before.before.before.before.before.before in
+    let s = c.before.before.before.before.before.before.before.before.before.before.before.before.before.before.before.before.before.before.before.before.before in
     let a = s.args in
     let e = c.leave_at.ensures in
     λ owned l. (
@@ -77,13 +76,13 @@ returns-in-At c =
           let h = hit c.before.found-1.given.1 (known_in ts (had s) _ _ c.find-found.ensures) in
           (e l).1 ts
           ∙ ap (λ (p : ℕ). carried g (leave_at g p a.b.tick) a.records.now l) (sym h.first)
-          ∙ sym (leave_step g (request_of a.b owned) a.records.now l (forward c.before.before.before.before.before.before.before.before.before.before.before.before.before.before.before.before ts) (nonzero c.before.before.before.before.before.before.before.before.before.before.before.before.before.before) h.found),
+          ∙ sym (leave_step g (request_of a.b owned) a.records.now l (forward c.before.before.before.before.before.before.before.before.before.before.before.before.before.before ts) (nonzero c.before.before.before.before.before.before.before.before.before.before.before.before) h.found),
     )
 
 pub returns-in-Nowhere : goal.returns-in-Nowhere
 unfolding request_of
 returns-in-Nowhere c =
-    let s = c.before.before.before.before.before.before.before.before.before.before.before.before.before.before in
+    let s = c.before.before.before.before.before.before.before.before.before.before.before.before.before in
     let a = s.args in
     let e = c.refused-in-Nowhere.ensures in
     λ owned l. (
@@ -91,6 +90,6 @@ returns-in-Nowhere c =
       λ ts.
           let g = view_parts ts (had s) in
           took_refused e g a.records.now l
-          ∙ sym (row_unknown g (request_of a.b owned) a.records.now l (forward c.before.before.before.before.before.before.before ts) (nonzero c.before.before.before.before.before)
+          ∙ sym (row_unknown g (request_of a.b owned) a.records.now l (forward c.before.before.before.before.before.before ts) (nonzero c.before.before.before.before)
           (miss _ c.before.enum_told-1.given.1 (known_in ts (had s) _ _ c.find-found.ensures))),
     )

@@ -17,14 +17,13 @@ use Rattle.leaving.proofs.LeaveRows.{leave_records_lem, leave_group}
 use Rattle.leaving.proofs.leave_at.Lts as lts
 use Rattle.leaving.proofs.leave_at.Reads as reads
 use Rattle.leaving.proofs.leave_at.Tie as tie
-use Rattle.leaving.proofs.leave_at.Goals.{Start}
 use Rattle.leaving.proofs.leave_at.Goals as goal
 
 -- the parts at entry
-abbrev had : Start → Parts
+abbrev had : (lts.Start tie.the-claims reads.Pre reads.Post) → Parts
 had s = let a = s.args in parts a.head.now a.members.now a.target.now a.holder.now a.waiting.now
 
-abbrev start : (lts.After-leave_records_len tie.the-claims reads.Pre reads.Post) → Start
+abbrev start : (lts.After-leave_records_len tie.the-claims reads.Pre reads.Post) → (lts.Start tie.the-claims reads.Pre reads.Post)
 start c = c.before.before.before.before.before.before.before.before.before.before.before.before.before
 
 -- the records are those of the effect
@@ -65,7 +64,7 @@ returns c =
     let put = c.put_leave_records-written in
     let r : Outcome = record { answer = Left; written = put.result } in
     let t = c.vacate-2.new in
-    let after = parts (set (set a.head.now 0 c.raised_epoch-epoch.result) 2 a.tick) c.vacate.new.members t.0 t.1.0 t.1.1.0 in
+    let after = parts (set (set a.head.now 0 c.raised_epoch-epoch.result) 2 a.tick) c.vacate.new.members t.target t.holder t.waiting in
     λ l. (
       tt,
       λ ts. stored (leave_at (view_parts ts (had s)) a.p.0 a.tick) (recorded c.before.before.before.before.before.before.before.before.before.before.before.before ts) a.records.now l (view_parts ts (had s)) r (view_parts ts after) refl

@@ -22,9 +22,6 @@ use Rattle.installing.proofs.retargeting.put_differences.Given as goal
 abbrev pub Begins : List ℕ → List ℕ → List ℕ → ℕ → ℕ → Type 0
 Begins target firsts buf slot p = (p < max_members) × (get_or firsts p 0 ≡ slot) × (length (differences 0 (set_m p (unheld target))) ≤ length buf)
 
-abbrev pub begins : (c : Start) → let a = c.args in Begins a.target.now a.firsts.now a.buf.now (get_or a.firsts.now a.p.0 0) a.p.0
-begins c = (c.requires.1, refl, c.requires.2)
-
 abbrev pub invariant-loop-slot : goal.invariant-loop-slot
 invariant-loop-slot l = (l.slot ≤ slot_count) × (l.last ≤ l.slot)
     × ((p : ℕ) → Begins l.target l.firsts l.initial.buf l.initial.slot p

@@ -18,17 +18,16 @@ use Rattle.installing.proofs.Linking.{set_count}
 use Rattle.installing.proofs.retargeting.put_target.Lts as lts
 use Rattle.installing.proofs.retargeting.put_target.Reads as reads
 use Rattle.installing.proofs.retargeting.put_target.Tie as tie
-use Rattle.installing.proofs.retargeting.put_target.Goals.{Start}
 use Rattle.installing.proofs.retargeting.put_target.Goals as goal
 
 -- the parts us are to come
-abbrev After : List (List ℕ) → Start → Type 0
+abbrev After : List (List ℕ) → (lts.Start tie.the-claims reads.Pre reads.Post) → Type 0
 After us c = let a = c.args in Stage (bytes_of (target_of a.target.now a.p.0)) a.buf.now us
 
-abbrev slots : Start → List ℕ
+abbrev slots : (lts.Start tie.the-claims reads.Pre reads.Post) → List ℕ
 slots c = differences 0 (set_m c.args.p.0 (unheld c.args.target.now))
 
-s₀ : (c : Start) → let a = c.args in
+s₀ : (c : (lts.Start tie.the-claims reads.Pre reads.Post)) → let a = c.args in
     Writing (bytes_of (target_of a.target.now a.p.0)) a.buf.now a.buf.now 0 (target_front a.p.0 (get_or a.counts.now a.p.0 0) ∷ slots c ∷ [])
 unfolding target_of
 s₀ c =

@@ -34,6 +34,6 @@ returns c =
       refused = λ e. absurd (false≢true e);
       wrote = λ _. (
         omega (arith, put.ensures.count, c.if-buf-size.false),
-        subst (λ (w : List ℕ). Wrote w c.args.buf.now copied.new.0 copied.result) (wrote_part put.ensures).1 copied.ensures,
+        subst (λ (w : List ℕ). Wrote w c.args.buf.now copied.new.buf copied.result) (wrote_part put.ensures).1 copied.ensures,
       );
     }
