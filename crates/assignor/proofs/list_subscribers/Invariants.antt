@@ -1,13 +1,10 @@
 -- Those listed and those among the places that are left are all (`listed_next`). Assumes nothing.
-use Prim.Native.Nat.{ℕ, ◌-◌, ◌≤◌, ◌<◌}
-use native.Mathlib.Omega.{arith}
-use mathlib.Core.Path.{◌≡◌, refl, sym, ap, ◌∙◌}
-use mathlib.Core.List.{List, ◌++◌, append-nil}
-use lib.ListN.{length, get_or, take, drop, length-set}
-use borrow.Author.Rules.{rules}
+use Prim.Native.Nat.{◌-◌, ◌≤◌}
+use mathlib.Core.Path.{◌≡◌}
+use mathlib.Core.List.{◌++◌}
+use lib.ListN.{length, take, drop}
 use Rattle.rules.specs.Constants.{max_members}
 use Rattle.assignor.specs.Shares.{among}
-use Rattle.assignor.proofs.Listing.{among_end, listed_next}
 use Rattle.assignor.proofs.list_subscribers.Given as goal
 
 abbrev pub invariant-loop-i : goal.invariant-loop-i

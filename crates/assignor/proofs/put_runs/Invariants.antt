@@ -1,15 +1,9 @@
 -- The runs of the subscribers that are left are to come (`Writing`); each goes where the last ended. Assumes nothing.
-use Prim.Native.Nat.{◌+◌, ◌-◌, ◌≤◌}
-use native.Mathlib.Nat.{div-le_self}
-use native.Mathlib.Omega.{arith}
-use mathlib.Core.Path.{◌∙◌}
-use mathlib.Core.List.{[], ◌∷◌, append-nil}
-use lib.ListN.{length, get_or, drop, replicate, length-replicate}
-use borrow.Author.Rules.{rules}
-use Rattle.rules.specs.Assignor.{runs, share}
-use Rattle.ranges.proofs.Runs.{runs_most}
-use Rattle.numbers.proofs.Writing.{Writing, begin, cut, put_at_lem, room_at, same_len, ended}
-use Rattle.assignor.proofs.Listing.{runs_end, runs_next}
+use Prim.Native.Nat.{◌-◌, ◌≤◌}
+use mathlib.Core.List.{[], ◌∷◌}
+use lib.ListN.{length, drop}
+use Rattle.rules.specs.Assignor.{runs}
+use Rattle.numbers.proofs.Writing.{Writing}
 use Rattle.assignor.proofs.put_runs.Given as goal
 
 abbrev pub invariant-loop-i : goal.invariant-loop-i

@@ -1,10 +1,8 @@
 -- The entry is to come as often as is left of the count (`Writing`). Assumes nothing.
-use Prim.Native.Nat.{ℕ, suc, ◌+◌, ◌-◌, ◌≤◌}
-use native.Mathlib.Omega.{arith}
-use mathlib.Core.Path.{◌≡◌, ap, ◌∙◌}
-use mathlib.Core.List.{[], ◌∷◌, append-nil}
-use lib.ListN.{replicate, length-replicate}
-use Rattle.numbers.proofs.Writing.{Writing, begin, put_one, to_go, same_len, ended}
+use Prim.Native.Nat.{◌-◌, ◌≤◌}
+use mathlib.Core.List.{[], ◌∷◌}
+use lib.ListN.{replicate}
+use Rattle.numbers.proofs.Writing.{Writing}
 use Rattle.assignor.proofs.put_times.Given as goal
 
 abbrev pub invariant-loop-at : goal.invariant-loop-at

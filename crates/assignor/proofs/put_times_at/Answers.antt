@@ -1,7 +1,6 @@
 -- `put_times` was lent the part from the place on (`part_over`). Assumes nothing.
 use native.Mathlib.Omega.{arith}
 use lib.ListN.{length-replicate}
-use borrow.Author.Rules.{rules}
 use Rattle.numbers.proofs.Writing.{part_over}
 use Rattle.assignor.proofs.put_times_at.Goals as goal
 

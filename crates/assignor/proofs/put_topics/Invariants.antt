@@ -1,16 +1,12 @@
 -- The entries of the topics that are left are to come (`Writing`); each topic's go to the part where the last ended. Assumes nothing.
-use Prim.Native.Nat.{◌+◌, ◌-◌, ◌≤◌}
-use native.Mathlib.Omega.{arith}
-use mathlib.Core.Path.{◌≡◌, refl, sym, ◌∙◌}
-use mathlib.Core.List.{[], ◌∷◌, append-nil}
-use lib.ListN.{length, take, drop}
-use lib.Seq.{length-take-le}
-use borrow.Author.Rules.{rules}
+use Prim.Native.Nat.{◌-◌, ◌≤◌}
+use mathlib.Core.Path.{◌≡◌}
+use mathlib.Core.List.{[], ◌∷◌}
+use lib.ListN.{length}
 use Rattle.rules.specs.Constants.{max_members, topic_count}
-use Rattle.numbers.specs.Buffer.{Wrote}
-use Rattle.numbers.proofs.Writing.{Writing, begin, cut, to_go₁, in_range_lem, same_len, room, put_at_lem, part_over, ended}
-use Rattle.assignor.specs.Shares.{all_entries, entries_of}
-use Rattle.assignor.proofs.Assigning.{From, all_long, entries_long, from_end, from_next, from_start, wrote_all}
+use Rattle.numbers.proofs.Writing.{Writing}
+use Rattle.assignor.specs.Shares.{all_entries}
+use Rattle.assignor.proofs.Assigning.{From}
 use Rattle.assignor.proofs.put_topics.Given as goal
 
 abbrev pub invariant-loop-t : goal.invariant-loop-t

@@ -1,10 +1,8 @@
-use Prim.Native.Nat.{◌+◌, ◌-◌, ◌≤◌}
 use native.Mathlib.Nat.{zero-add}
 use native.Mathlib.Omega.{arith}
-use mathlib.Core.Path.{◌≡◌, ap}
+use mathlib.Core.Path.{ap}
 use lib.ListN.{length}
-use Rattle.rules.specs.Constants.{max_members}
-use Rattle.events.proofs.Places.{picked_from, picked_in, picked_out, picked_end}
+use Rattle.events.proofs.Places.{picked_in, picked_out, picked_end}
 use Rattle.sweeping.specs.Marks.{mark, marked}
 use Rattle.sweeping.proofs.count_marks.Goals as goal
 

@@ -1,11 +1,9 @@
 -- The count and the marked places from i on make up all that are marked.
 use Prim.Native.Nat.{◌+◌, ◌-◌, ◌≤◌}
-use native.Mathlib.Nat.{zero-add}
-use native.Mathlib.Omega.{arith}
-use mathlib.Core.Path.{◌≡◌, ap}
+use mathlib.Core.Path.{◌≡◌}
 use lib.ListN.{length}
 use Rattle.rules.specs.Constants.{max_members}
-use Rattle.events.proofs.Places.{picked_from, picked_in, picked_out, picked_end}
+use Rattle.events.proofs.Places.{picked_from}
 use Rattle.sweeping.specs.Marks.{mark, marked}
 use Rattle.sweeping.proofs.count_marks.Given as goal
 

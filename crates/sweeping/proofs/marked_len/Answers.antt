@@ -1,12 +1,10 @@
-use Prim.Native.Nat.{ℕ, ◌+◌, ◌-◌, ◌*◌, ◌≤◌}
+use Prim.Native.Nat.{ℕ}
 use native.Mathlib.Nat.{zero-add}
 use native.Mathlib.Omega.{arith}
-use mathlib.Core.Path.{◌≡◌, ap}
+use mathlib.Core.Path.{ap}
 use mathlib.Core.List.{List}
 use lib.ListN.{length}
-use Rattle.rules.specs.Constants.{max_members, slot_count}
-use Rattle.rules.specs.Records.{all_bytes}
-use Rattle.events.proofs.Places.{picked_from, picked_in, picked_out, picked_end, bytes_at, size_next, bytes_end}
+use Rattle.events.proofs.Places.{picked_in, picked_out, picked_end, bytes_at, size_next, bytes_end}
 use Rattle.sweeping.specs.Marks.{mark, marked, gone_at, marked_records}
 use Rattle.sweeping.proofs.marked_len.Goals as goal
 

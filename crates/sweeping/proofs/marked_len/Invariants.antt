@@ -1,14 +1,11 @@
 -- The length so far and that of the records from place i on make up the whole.
-use Prim.Native.Nat.{ℕ, ◌+◌, ◌-◌, ◌*◌, ◌≤◌}
-use native.Mathlib.Nat.{zero-add}
-use native.Mathlib.Omega.{arith}
-use mathlib.Core.Path.{◌≡◌, ap}
-use mathlib.Core.List.{List}
+use Prim.Native.Nat.{◌+◌, ◌-◌, ◌*◌, ◌≤◌}
+use mathlib.Core.Path.{◌≡◌}
 use lib.ListN.{length}
 use Rattle.rules.specs.Constants.{max_members, slot_count}
 use Rattle.rules.specs.Records.{all_bytes}
-use Rattle.events.proofs.Places.{picked_from, picked_in, picked_out, picked_end, bytes_at, size_next, bytes_end}
-use Rattle.sweeping.specs.Marks.{mark, marked, gone_at, marked_records}
+use Rattle.events.proofs.Places.{picked_from, bytes_at}
+use Rattle.sweeping.specs.Marks.{mark, gone_at, marked_records}
 use Rattle.sweeping.proofs.marked_len.Given as goal
 
 abbrev pub invariant-loop-i : goal.invariant-loop-i

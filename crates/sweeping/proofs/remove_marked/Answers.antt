@@ -1,10 +1,7 @@
-use Prim.Native.Nat.{ℕ, ◌+◌, ◌-◌, ◌≤◌}
+use Prim.Native.Nat.{◌+◌}
 use native.Mathlib.Omega.{arith}
-use mathlib.Core.List.{List, foldl}
-use mathlib.Core.Option.{Option}
-use mathlib.Core.Path.{◌≡◌, refl, sym, ap, ◌∙◌}
-use Rattle.rules.specs.Constants.{max_members}
-use Rattle.rules.specs.Group.{Topic}
+use mathlib.Core.List.{foldl}
+use mathlib.Core.Path.{refl, sym, ap, ◌∙◌}
 use Rattle.rules.specs.Effects.{remove}
 use Rattle.group.specs.View.{view_with}
 use Rattle.events.proofs.Places.{picked_from, picked_in, picked_out, picked_end}

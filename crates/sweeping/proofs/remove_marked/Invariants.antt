@@ -1,16 +1,14 @@
 -- Removing the marked places from i on of what is left removes them all, whatever the topics and the head are.
-use Prim.Native.Nat.{ℕ, ◌+◌, ◌-◌, ◌≤◌}
-use native.Mathlib.Omega.{arith}
+use Prim.Native.Nat.{ℕ, ◌-◌, ◌≤◌}
 use mathlib.Core.List.{List, foldl}
 use mathlib.Core.Option.{Option}
-use mathlib.Core.Path.{◌≡◌, refl, sym, ap, ◌∙◌}
+use mathlib.Core.Path.{◌≡◌}
 use Rattle.rules.specs.Constants.{max_members}
 use Rattle.rules.specs.Group.{Topic}
 use Rattle.rules.specs.Effects.{remove}
 use Rattle.group.specs.View.{view_with}
-use Rattle.events.proofs.Places.{picked_from, picked_in, picked_out, picked_end}
+use Rattle.events.proofs.Places.{picked_from}
 use Rattle.sweeping.specs.Marks.{mark, marked}
-use Rattle.sweeping.proofs.SweepRows.{removed}
 use Rattle.sweeping.proofs.remove_marked.Given as goal
 
 abbrev pub invariant-loop-i : goal.invariant-loop-i

@@ -1,10 +1,5 @@
-use Prim.Native.Nat.{ℕ, ◌-◌, ◌≤◌, ◌<◌}
 use native.Mathlib.Omega.{arith}
-use mathlib.Core.Bool.{false}
-use mathlib.Core.Path.{◌≡◌}
-use lib.ListN.{get_or}
 use borrow.Author.Count.{below_more}
-use Rattle.rules.specs.Constants.{slot_count}
 use Rattle.rules.proofs.Lists.{or_false}
 use Rattle.sweeping.proofs.overdue.any_waits.Goals as goal
 

@@ -1,11 +1,8 @@
-use Prim.Native.Nat.{ℕ, ◌-◌, ◌≤◌}
 use native.Mathlib.Omega.{arith}
-use mathlib.Core.List.{List}
-use mathlib.Core.Path.{◌≡◌, refl}
-use lib.ListN.{length, length-set}
-use Rattle.rules.specs.Constants.{max_members, slot_count}
-use Rattle.tables.specs.View.{view_lists, Sizes}
-use Rattle.sweeping.proofs.Marking.{Marking, mark_begin, mark_end, mark_none, mark_one, mark_past}
+use mathlib.Core.Path.{refl}
+use lib.ListN.{length-set}
+use Rattle.tables.specs.View.{view_lists}
+use Rattle.sweeping.proofs.Marking.{mark_begin, mark_end, mark_none, mark_one, mark_past}
 use Rattle.sweeping.proofs.overdue.revoking_places.Goals as goal
 
 pub loop-next-init : goal.loop-next-init

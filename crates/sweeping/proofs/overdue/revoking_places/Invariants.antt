@@ -1,12 +1,11 @@
 -- Each place is marked, or some slot that is left waits at it (`Marking`), whatever the targets are.
 use Prim.Native.Nat.{ℕ, ◌-◌, ◌≤◌}
-use native.Mathlib.Omega.{arith}
 use mathlib.Core.List.{List}
-use mathlib.Core.Path.{◌≡◌, refl}
-use lib.ListN.{length, length-set}
+use mathlib.Core.Path.{◌≡◌}
+use lib.ListN.{length}
 use Rattle.rules.specs.Constants.{max_members, slot_count}
 use Rattle.tables.specs.View.{view_lists, Sizes}
-use Rattle.sweeping.proofs.Marking.{Marking, mark_begin, mark_end, mark_none, mark_one, mark_past}
+use Rattle.sweeping.proofs.Marking.{Marking}
 use Rattle.sweeping.proofs.overdue.revoking_places.Given as goal
 
 abbrev pub invariant-loop-next : goal.invariant-loop-next

@@ -1,14 +1,11 @@
-use Prim.Native.Nat.{ℕ, ◌-◌, ◌≤◌, ◌<◌}
 use native.Mathlib.Omega.{arith}
 use mathlib.Core.Bool.{false}
 use mathlib.Core.Option.{none}
-use mathlib.Core.Path.{◌≡◌, refl, ◌∙◌}
-use lib.ListN.{length, get_or, length-set}
-use Rattle.rules.specs.Constants.{max_members}
+use mathlib.Core.Path.{refl, ◌∙◌}
+use lib.ListN.{get_or, length-set}
 use Rattle.rules.specs.Effects.{due}
 use Rattle.group.specs.Columns.{view_members}
 use Rattle.slots.proofs.Each.{store_next}
-use Rattle.sweeping.specs.Marks.{mark}
 use Rattle.sweeping.proofs.Marking.{silent_is}
 use Rattle.sweeping.proofs.overdue.silent_places.Goals as goal
 

@@ -1,16 +1,13 @@
 -- The marks below k are those of the members that are due.
 use Prim.Native.Nat.{ℕ, ◌-◌, ◌≤◌, ◌<◌}
-use native.Mathlib.Omega.{arith}
 use mathlib.Core.Bool.{false}
 use mathlib.Core.Option.{none}
-use mathlib.Core.Path.{◌≡◌, refl, ◌∙◌}
-use lib.ListN.{length, get_or, length-set}
+use mathlib.Core.Path.{◌≡◌}
+use lib.ListN.{length, get_or}
 use Rattle.rules.specs.Constants.{max_members}
 use Rattle.rules.specs.Effects.{due}
 use Rattle.group.specs.Columns.{view_members}
-use Rattle.slots.proofs.Each.{store_next}
 use Rattle.sweeping.specs.Marks.{mark}
-use Rattle.sweeping.proofs.Marking.{silent_is}
 use Rattle.sweeping.proofs.overdue.silent_places.Given as goal
 
 abbrev pub invariant-loop-k : goal.invariant-loop-k

@@ -1,9 +1,7 @@
-use Prim.Native.Nat.{◌-◌, ◌≤◌}
 use native.Mathlib.Omega.{arith}
-use mathlib.Core.Path.{◌≡◌, refl}
-use lib.ListN.{length, length-set}
-use Rattle.rules.specs.Constants.{max_members}
-use Rattle.sweeping.proofs.Marking.{Aimed, aimed_one, aimed_none}
+use mathlib.Core.Path.{refl}
+use lib.ListN.{length-set}
+use Rattle.sweeping.proofs.Marking.{aimed_one, aimed_none}
 use Rattle.sweeping.proofs.overdue.target_places.Goals as goal
 
 pub loop-i-init : goal.loop-i-init

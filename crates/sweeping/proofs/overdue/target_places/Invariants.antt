@@ -1,10 +1,9 @@
 -- The marks below i are those of the targets, where a place goes.
 use Prim.Native.Nat.{◌-◌, ◌≤◌}
-use native.Mathlib.Omega.{arith}
-use mathlib.Core.Path.{◌≡◌, refl}
-use lib.ListN.{length, length-set}
+use mathlib.Core.Path.{◌≡◌}
+use lib.ListN.{length}
 use Rattle.rules.specs.Constants.{max_members}
-use Rattle.sweeping.proofs.Marking.{Aimed, aimed_one, aimed_none}
+use Rattle.sweeping.proofs.Marking.{Aimed}
 use Rattle.sweeping.proofs.overdue.target_places.Given as goal
 
 abbrev pub invariant-loop-i : goal.invariant-loop-i
