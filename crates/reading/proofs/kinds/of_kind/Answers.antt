@@ -1,4 +1,5 @@
 -- Each arm is the reader of its kind.
+use native.Mathlib.Omega.{arith}
 use Rattle.reading.proofs.Places.{read_refused}
 use Rattle.reading.proofs.ByKind.{made_none, kind_3, kind_4, kind_5, kind_6, kind_7, kind_8, kind_none}
 use Rattle.reading.proofs.kinds.of_kind.Goals as goal
@@ -24,6 +25,5 @@ returns-in-8 c = rw (kind_8 c.args.k c.in-8.is) c.current.ensures
 pub returns-in_default : goal.returns-in_default
 returns-in_default c =
     let a = c.args in
-    let r = c.in-3.rest in
-    let e = kind_none a.k r.0.0.0.0.0.1 r.0.0.0.0.1 r.0.0.0.1 r.0.0.1 r.0.1 r.1 in
+    let e = kind_none a.k (λ q. omega arith) (λ q. omega arith) (λ q. omega arith) (λ q. omega arith) (λ q. omega arith) (λ q. omega arith) in
     made_none _ _ _ _ _ c.plain.ensures.0 c.plain.ensures.1 (rw e (read_refused a.s.now a.at))
