@@ -1,8 +1,8 @@
 -- The length of a batch, by its first and its second byte.
-use mathlib.Core.Path.{◌≡◌, refl, sym, ap, ◌∙◌}
-use mathlib.Core.Bool.{Bool, true, false, ◌||◌}
-use mathlib.Core.List.{List, [], ◌∷◌}
-use Prim.Native.Nat.{ℕ, zero, suc, ◌+◌, ◌-◌, ◌*◌, ◌≤◌, ◌<◌}
+use mathlib.Core.Path.{◌≡◌, sym, ◌∙◌}
+use mathlib.Core.Bool.{◌||◌}
+use mathlib.Core.List.{List}
+use Prim.Native.Nat.{ℕ, ◌+◌, ◌-◌, ◌*◌, ◌≤◌, ◌<◌}
 use native.Mathlib.Numerals.{add-one}
 use native.Mathlib.Omega.{arith}
 use lib.Dec.{eqb, ltb, leb}
@@ -11,8 +11,8 @@ use lib.Seq.{drop-cons}
 use borrow.Author.Tests.{lt-ltb, le-ltb, le-leb, lt-leb, eq-eqb, ne_eqb}
 use Rattle.rules.specs.Basics.{if◌then◌else◌}
 use Rattle.rules.specs.Constants.{batch_limit}
-use Rattle.rules.specs.Journal.{LengthRead, no_length, cut_length, bad_length, batch_of, read_length, second_group}
-use Rattle.frames.specs.Forms.{LengthAt, length_as, Ahead}
+use Rattle.rules.specs.Journal.{LengthRead, bad_length, batch_of, read_length, second_group}
+use Rattle.frames.specs.Forms.{LengthAt}
 use Rattle.frames.specs.declared.Length.TheVariants as L
 
 module _ (s : List ℕ) (at : ℕ) where

@@ -1,16 +1,13 @@
 -- The heading compared byte by byte: the bytes before `i` are equal, so that the rest decides.
-use mathlib.Core.Path.{◌≡◌, refl, sym, ap, ◌∙◌}
-use mathlib.Core.List.{List, [], ◌∷◌}
-use Prim.Native.Nat.{ℕ, zero, suc, ◌+◌, ◌≤◌, ◌<◌}
+use mathlib.Core.Path.{◌≡◌}
+use mathlib.Core.List.{List}
+use Prim.Native.Nat.{ℕ, ◌+◌, ◌≤◌, ◌<◌}
 use native.Mathlib.Numerals.{add-one}
-use native.Mathlib.Omega.{arith}
-use lib.Dec.{eqb}
 use lib.ListN.{length, get_or, drop, drop_of_length-le}
 use lib.Seq.{drop-cons}
 use borrow.Author.Tests.{eq-eqb, ne_eqb}
-use Rattle.rules.specs.Basics.{if◌then◌else◌}
 use Rattle.rules.specs.Group.{fresh}
-use Rattle.rules.specs.Journal.{Reading, heading, read_heading, refused_at, torn_from}
+use Rattle.rules.specs.Journal.{Reading, read_heading, refused_at, torn_from}
 
 module _ (hs s : List ℕ) (i : ℕ) (h : i < length hs) (t : ℕ) (more : List ℕ → Reading) where
   pub opening_cut : length s ≤ i → read_heading (drop i hs) (drop i s) t more ≡ record { group = fresh t; verdict = torn_from 0 }

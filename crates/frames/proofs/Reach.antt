@@ -1,18 +1,14 @@
 -- What stands where a length would, from the length.
 use mathlib.Core.Path.{◌≡◌, refl, sym, ap, ap₂, ◌∙◌}
-use mathlib.Core.List.{List, [], ◌∷◌}
+use mathlib.Core.List.{List}
 use Prim.Native.Nat.{ℕ, ◌+◌, ◌-◌, ◌≤◌, ◌<◌}
 use native.Mathlib.Omega.{arith}
-use lib.Dec.{ltb}
-use lib.ListN.{length, take, drop, length-drop, drop_of_length-le}
-use lib.Seq.{drop-drop, take_all}
+use lib.ListN.{length, drop, length-drop}
+use lib.Seq.{drop-drop}
 use borrow.Author.Tests.{lt-ltb, le-ltb}
-use Rattle.rules.specs.Basics.{if◌then◌else◌}
 use Rattle.rules.specs.Constants.{batch_limit}
-use Rattle.rules.specs.Group.{Group}
-use Rattle.rules.specs.Batches.{read_batch}
-use Rattle.rules.specs.Journal.{LengthRead, Reading, after_length, after_batch, read_length, no_length, cut_length, bad_length, batch_of, whole, torn_from, refused_at}
-use Rattle.frames.specs.Forms.{LengthAt, length_as, Ahead, ExtentAt, extended}
+use Rattle.rules.specs.Journal.{LengthRead, after_length, read_length}
+use Rattle.frames.specs.Forms.{LengthAt, length_as, Ahead, ExtentAt}
 use Rattle.frames.specs.declared.Length.{Length}
 use Rattle.frames.specs.declared.Length.TheVariants as L
 use Rattle.frames.specs.declared.Extent.TheVariants as X
@@ -56,10 +52,3 @@ module _ {s : List ℕ} {at : ℕ} {r : Length} (a : LengthAt s at (read_length 
               ∙ rw (le-ltb (length (drop start s)) n (simp length-drop h), k, drop-drop n start s));
           within = (ahead_of.0, omega arith, omega (arith, ahead_of.1), omega (arith, ahead_of.2));
         }
-
--- a part that goes to the end
-pub to_end : (s : List ℕ) (at : ℕ) → take (length s - at) (drop at s) ≡ drop at s
-to_end s at = take_all (length s - at) (drop at s) (simp length-drop (omega arith))
-
-pub end_none : (s : List ℕ) (at : ℕ) → length s ≤ at → drop at s ≡ []
-end_none s at h = drop_of_length-le s h

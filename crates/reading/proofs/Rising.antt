@@ -4,7 +4,7 @@ use mathlib.Core.Bool.{Bool, true, false, ◌&&◌, ◌||◌, or-true, or-false,
 use mathlib.Core.List.{List, [], ◌∷◌, ◌++◌, append_assoc, append-nil}
 use mathlib.Core.Option.{Option, none, some}
 use Prim.Native.Nat.{ℕ, zero, suc, ◌+◌, ◌-◌, ◌*◌, ◌/◌, ◌%◌, ◌^◌, ◌≤◌, ◌<◌}
-use native.Mathlib.Nat.{add-zero, zero-add, add-suc, suc-add}
+use native.Mathlib.Nat.{zero-add}
 use native.Mathlib.Numerals.{add-one}
 use native.Mathlib.Omega.{arith}
 use lib.Bits.{bit_or}
@@ -183,7 +183,7 @@ module _ (low x slot : ℕ) (e : slot ≡ (if slot_from low x then x else slot_c
     where
       pick : (b : Bool) → slot_from low x ≡ b → slot_from low x ≡ false
       pick true p =
-          let h = rules-lists.and-true (leb low x) (ltb x slot_count) p in
+          let h = rules-lists.and_true (leb low x) (ltb x slot_count) p in
           let k : slot ≡ x = e ∙ ap (λ (b : Bool). if b then x else slot_count) p in
           absurd (omega (arith, ltb-true x slot_count h.1))
       pick false p = p
@@ -193,6 +193,6 @@ module _ (low x slot : ℕ) (e : slot ≡ (if slot_from low x then x else slot_c
     where
       pick : (b : Bool) → slot_from low x ≡ b → Right low x slot
       pick true p =
-          let h = rules-lists.and-true (leb low x) (ltb x slot_count) p in
+          let h = rules-lists.and_true (leb low x) (ltb x slot_count) p in
           record { passes = p; is = e ∙ ap (λ (b : Bool). if b then x else slot_count) p; above = leb-true low x h.0; below = ltb-true x slot_count h.1 }
       pick false p = absurd (z (e ∙ ap (λ (b : Bool). if b then x else slot_count) p))

@@ -1,8 +1,6 @@
-use Prim.Native.Nat.{◌-◌}
 use native.Mathlib.Omega.{arith}
-use lib.ListN.{length}
 use Rattle.rules.proofs.Lists.{not_is_false, not_is_true}
-use Rattle.batches.proofs.Going.{Going, going_ahead, going_begins, going_ends, going_on, going_stops}
+use Rattle.batches.proofs.Going.{going_ahead, going_begins, going_ends, going_on, going_stops}
 use Rattle.batches.proofs.gather.Goals as goal
 
 pub loop-at-init : goal.loop-at-init

@@ -1,9 +1,7 @@
 -- The records so far and those from `at` on are the records of the batch (`Going`).
 use Prim.Native.Nat.{◌-◌}
-use native.Mathlib.Omega.{arith}
 use lib.ListN.{length}
-use Rattle.rules.proofs.Lists.{not_is_false, not_is_true}
-use Rattle.batches.proofs.Going.{Going, going_ahead, going_begins, going_ends, going_on, going_stops}
+use Rattle.batches.proofs.Going.{Going}
 use Rattle.batches.proofs.gather.Given as goal
 
 abbrev pub invariant-loop-at : goal.invariant-loop-at

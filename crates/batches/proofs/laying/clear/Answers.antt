@@ -1,9 +1,5 @@
-use Prim.Native.Nat.{◌-◌, ◌≤◌}
 use native.Mathlib.Omega.{arith}
-use lib.Dec.{eqb}
-use Rattle.rules.specs.Basics.{if◌then◌else◌}
-use Rattle.rules.specs.Constants.{no_place, slot_count}
-use Rattle.slots.proofs.Each.{Each, each_none, each_more}
+use Rattle.slots.proofs.Each.{each_none, each_more}
 use Rattle.batches.proofs.Entries.{each_all}
 use Rattle.batches.proofs.laying.clear.Goals as goal
 

@@ -1,11 +1,9 @@
 -- Below i no entry is p.
 use Prim.Native.Nat.{◌-◌, ◌≤◌}
-use native.Mathlib.Omega.{arith}
 use lib.Dec.{eqb}
 use Rattle.rules.specs.Basics.{if◌then◌else◌}
 use Rattle.rules.specs.Constants.{no_place, slot_count}
-use Rattle.slots.proofs.Each.{Each, each_none, each_more}
-use Rattle.batches.proofs.Entries.{each_all}
+use Rattle.slots.proofs.Each.{Each}
 use Rattle.batches.proofs.laying.clear.Given as goal
 
 abbrev pub invariant-loop-i : goal.invariant-loop-i

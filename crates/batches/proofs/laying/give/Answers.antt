@@ -1,13 +1,7 @@
-use mathlib.Core.Path.{◌≡◌}
-use mathlib.Core.Bool.{true}
-use Prim.Native.Nat.{◌+◌, ◌-◌, ◌≤◌, ◌<◌}
+use Prim.Native.Nat.{◌+◌}
 use native.Mathlib.Omega.{arith}
-use Rattle.rules.specs.Basics.{if◌then◌else◌}
-use Rattle.rules.specs.Constants.{slot_count}
-use Rattle.slots.specs.Set.{has}
-use Rattle.slots.specs.Walk.{Left}
 use Rattle.slots.proofs.Selecting.{next_ahead}
-use Rattle.slots.proofs.Each.{Each, each_none, each_more}
+use Rattle.slots.proofs.Each.{each_none, each_more}
 use Rattle.batches.proofs.Entries.{each_all, each_skip}
 use Rattle.batches.proofs.laying.give.Goals as goal
 
@@ -28,13 +22,12 @@ pub loop-s-preserved : goal.loop-s-preserved
 loop-s-preserved c =
     let l = c.loop-s in
     let e = c.after-s.ensures l.invariant.2 in
-    let x = c in
-    let ahead = next_ahead x.args.slots.words (l.s.slot + 1) c.after-s.result.slot (omega arith) e.0 in (
+    let ahead = next_ahead c.args.slots.words (l.s.slot + 1) c.after-s.result.slot (omega arith) e.0 in (
       e.0.0,
       λ h. (e.0.2 h).1,
       e.1,
       each_skip _ ahead (λ k i j. rw (e.0.1 k i j))
-          (each_more _ l.invariant.3 (omega (arith, l.invariant.3.len, x.requires)) (rw (l.invariant.1 (omega arith)))),
+          (each_more _ l.invariant.3 (omega (arith, l.invariant.3.len, c.requires)) (rw (l.invariant.1 (omega arith)))),
     )
 
 pub returns : goal.returns

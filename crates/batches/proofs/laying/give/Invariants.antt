@@ -1,15 +1,12 @@
 -- Below the step's slot the entries of the slots of the set are p; the step's slot is one of them, or the end. Those between one slot and the next stay.
 use mathlib.Core.Path.{◌≡◌}
 use mathlib.Core.Bool.{true}
-use Prim.Native.Nat.{◌+◌, ◌-◌, ◌≤◌, ◌<◌}
-use native.Mathlib.Omega.{arith}
+use Prim.Native.Nat.{◌-◌, ◌≤◌, ◌<◌}
 use Rattle.rules.specs.Basics.{if◌then◌else◌}
 use Rattle.rules.specs.Constants.{slot_count}
 use Rattle.slots.specs.Set.{has}
 use Rattle.slots.specs.Walk.{Left}
-use Rattle.slots.proofs.Selecting.{next_ahead}
-use Rattle.slots.proofs.Each.{Each, each_none, each_more}
-use Rattle.batches.proofs.Entries.{each_all, each_skip}
+use Rattle.slots.proofs.Each.{Each}
 use Rattle.batches.proofs.laying.give.Given as goal
 
 abbrev pub invariant-loop-s : goal.invariant-loop-s

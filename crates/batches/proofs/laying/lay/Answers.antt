@@ -1,6 +1,5 @@
 -- By both passes.
 use mathlib.Core.Path.{◌∙◌}
-use borrow.Author.Rules.{rules}
 use Rattle.batches.proofs.Entries.{laid_is}
 use Rattle.batches.proofs.laying.lay.Goals as goal
 
@@ -11,6 +10,4 @@ pub give-requires : goal.give-requires
 give-requires c = c.clear.ensures.size ∙ c.full.ensures
 
 pub returns : goal.returns
-returns c =
-    let x = c in
-    laid_is x.args.p x.args.slots.words c.full.ensures c.clear.ensures c.give.ensures
+returns c = laid_is c.args.p c.args.slots.words c.full.ensures c.clear.ensures c.give.ensures

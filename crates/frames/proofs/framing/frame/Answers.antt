@@ -1,10 +1,6 @@
 use Rattle.frames.proofs.Entries.{entry_length, framed_empty, framed_is, framed_large, no_room, nothing_stored, room}
-use Rattle.frames.specs.Forms.{framed}
-use lib.ListN.{length}
-use Prim.Native.Nat.{◌+◌, ◌≤◌, ◌<◌}
 use native.Mathlib.Omega.{arith}
-use mathlib.Core.Path.{◌≡◌, refl}
-use borrow.Author.Rules.{rules}
+use mathlib.Core.Path.{refl}
 use Rattle.frames.proofs.framing.frame.Goals as goal
 
 pub returns-then-n-gt-BATCH_LIMIT : goal.returns-then-n-gt-BATCH_LIMIT
@@ -29,4 +25,4 @@ returns c =
     let a = c.args in
     let p = c.put_entry in
     rw (framed_is a.records.now (omega arith))
-    (room _ a.journal.now (omega (arith, entry_length a.records.now (omega arith), c.number_len.ensures.0)) p.new.0 p.result p.ensures)
+    (room _ a.journal.now (omega (arith, entry_length a.records.now (omega arith), c.number_len.ensures.0)) p.new.buf p.result p.ensures)

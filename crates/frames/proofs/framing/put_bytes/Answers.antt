@@ -1,12 +1,11 @@
-use Rattle.numbers.proofs.Writing.{Writing, begin, to_go₁, same_len, put_one, put_at_lem, room_at, ended, part_over}
+use Rattle.numbers.proofs.Writing.{begin, same_len, put_one, ended}
 use lib.Seq.{drop-cons, drop-length}
 use native.Mathlib.Numerals.{add-one}
-use mathlib.Core.List.{List, [], ◌∷◌, append-nil}
-use lib.ListN.{length, get_or, drop}
-use Prim.Native.Nat.{ℕ, ◌+◌, ◌-◌, ◌*◌, ◌≤◌, ◌<◌}
+use mathlib.Core.List.{append-nil}
+use lib.ListN.{length, drop}
+use Prim.Native.Nat.{ℕ, ◌<◌}
 use native.Mathlib.Omega.{arith}
-use mathlib.Core.Path.{◌≡◌, refl, sym, ap, ◌∙◌}
-use borrow.Author.Rules.{rules}
+use mathlib.Core.Path.{◌≡◌, ap, ◌∙◌}
 use Rattle.frames.proofs.framing.put_bytes.Goals as goal
 
 pub loop-i-init : goal.loop-i-init

@@ -1,15 +1,11 @@
 use Rattle.frames.proofs.Entries.{entry_parts}
 use Rattle.rules.specs.Journal.{entry}
 use Rattle.rules.specs.Records.{number}
-use Rattle.numbers.proofs.Writing.{Writing, begin, to_go₁, same_len, put_one, put_at_lem, room_at, ended, part_over}
-use lib.Seq.{drop-cons, drop-length}
-use native.Mathlib.Numerals.{add-one}
-use mathlib.Core.List.{List, [], ◌∷◌, append-nil}
-use lib.ListN.{length, get_or, drop}
-use Prim.Native.Nat.{ℕ, ◌+◌, ◌-◌, ◌*◌, ◌≤◌, ◌<◌}
-use native.Mathlib.Omega.{arith}
-use mathlib.Core.Path.{◌≡◌, refl, sym, ap, ◌∙◌}
-use borrow.Author.Rules.{rules}
+use Rattle.numbers.proofs.Writing.{Writing, begin, same_len, put_at_lem, room_at, ended}
+use mathlib.Core.List.{List, [], ◌∷◌}
+use lib.ListN.{drop}
+use Prim.Native.Nat.{ℕ}
+use mathlib.Core.Path.{refl}
 use Rattle.frames.proofs.framing.put_entry.Lts as lts
 use Rattle.frames.proofs.framing.put_entry.Reads as reads
 use Rattle.frames.proofs.framing.put_entry.Tie as tie

@@ -1,9 +1,6 @@
 use Rattle.frames.proofs.Entries.{no_room, room}
 use Rattle.rules.specs.Journal.{heading}
-use lib.ListN.{length}
-use Prim.Native.Nat.{◌≤◌, ◌<◌}
 use native.Mathlib.Omega.{arith}
-use borrow.Author.Rules.{rules}
 use Rattle.frames.proofs.framing.put_heading.Goals as goal
 
 pub returns-then-journal-lt-HEADING_LENGTH : goal.returns-then-journal-lt-HEADING_LENGTH
@@ -12,4 +9,4 @@ returns-then-journal-lt-HEADING_LENGTH c = no_room heading _ c.if-journal-lt-HEA
 
 pub returns : goal.returns
 unfolding heading
-returns c = let p = c.put_bytes in room heading _ (omega arith) p.new.0 p.result p.ensures
+returns c = let p = c.put_bytes in room heading _ (omega arith) p.new.buf p.result p.ensures

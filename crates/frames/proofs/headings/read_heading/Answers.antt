@@ -1,11 +1,10 @@
 use Rattle.frames.proofs.Opening.{opening_cut, opening_wrong, opening_goes, opening_right}
-use Rattle.rules.specs.Journal.{Reading, heading, read_heading}
+use Rattle.rules.specs.Journal.{heading}
 use mathlib.Core.List.{List}
-use lib.ListN.{length, get_or, drop}
-use Prim.Native.Nat.{ℕ, ◌+◌, ◌-◌, ◌*◌, ◌≤◌, ◌<◌}
+use lib.ListN.{get_or, drop}
+use Prim.Native.Nat.{ℕ}
 use native.Mathlib.Omega.{arith}
 use mathlib.Core.Path.{◌≡◌, refl, sym, ap, ◌∙◌}
-use borrow.Author.Rules.{rules}
 use Rattle.frames.proofs.headings.read_heading.Goals as goal
 
 pub loop-i-init : goal.loop-i-init

@@ -1,11 +1,8 @@
-use Rattle.frames.proofs.Opening.{opening_cut, opening_wrong, opening_goes, opening_right}
 use Rattle.rules.specs.Journal.{Reading, heading, read_heading}
 use mathlib.Core.List.{List}
-use lib.ListN.{length, get_or, drop}
-use Prim.Native.Nat.{ℕ, ◌+◌, ◌-◌, ◌*◌, ◌≤◌, ◌<◌}
-use native.Mathlib.Omega.{arith}
-use mathlib.Core.Path.{◌≡◌, refl, sym, ap, ◌∙◌}
-use borrow.Author.Rules.{rules}
+use lib.ListN.{drop}
+use Prim.Native.Nat.{ℕ, ◌-◌, ◌≤◌}
+use mathlib.Core.Path.{◌≡◌}
 use Rattle.frames.proofs.headings.read_heading.Given as goal
 
 abbrev pub invariant-loop-i : goal.invariant-loop-i

@@ -1,16 +1,13 @@
-use Rattle.frames.proofs.Measures.{none_left, cut_second, zero_length, short_length, long_length, third_group, for_nothing, too_long, two_groups, from_second}
-use lib.ListN.{length, get_or, drop}
-use Prim.Native.Nat.{ℕ, ◌+◌, ◌-◌, ◌*◌, ◌≤◌, ◌<◌}
+use Rattle.frames.proofs.Measures.{none_left, zero_length, short_length, long_length, from_second}
 use native.Mathlib.Omega.{arith}
-use mathlib.Core.Path.{◌≡◌, refl, sym, ap, ◌∙◌}
-use borrow.Author.Rules.{rules}
+use mathlib.Core.Path.{sym, ◌∙◌}
 use Rattle.frames.proofs.lengths.read_length.Goals as goal
 
 pub returns-then-s-at : goal.returns-then-s-at
 returns-then-s-at c = none_left _ _ c.if-s-at.true
 
 pub second_group-requires : goal.second_group-requires
-second_group-requires c = omega (arith, c.wide-b.ensures, c.before.shared_slice_known-2-1.given c.args.at)
+second_group-requires c = omega (arith, c.wide-b.ensures, c.type_inv.s c.args.at)
 
 pub returns-then-b-ge128 : goal.returns-then-b-ge128
 returns-then-b-ge128 c = let a = c.args in let e = c.wide-b.ensures in from_second c.second_group.result (rw (long_length a.s.now a.at (omega arith) (omega arith), ← e) c.second_group.ensures)

@@ -1,9 +1,6 @@
-use Rattle.frames.proofs.Measures.{none_left, cut_second, zero_length, short_length, long_length, third_group, for_nothing, too_long, two_groups, from_second}
-use lib.ListN.{length, get_or, drop}
-use Prim.Native.Nat.{ℕ, ◌+◌, ◌-◌, ◌*◌, ◌≤◌, ◌<◌}
+use Rattle.frames.proofs.Measures.{cut_second, third_group, for_nothing, too_long, two_groups}
 use native.Mathlib.Omega.{arith}
-use mathlib.Core.Path.{◌≡◌, refl, sym, ap, ◌∙◌}
-use borrow.Author.Rules.{rules}
+use mathlib.Core.Path.{sym, ◌∙◌}
 use Rattle.frames.proofs.lengths.second_group.Goals as goal
 
 pub returns-then-s-at : goal.returns-then-s-at

@@ -1,11 +1,10 @@
-use mathlib.Core.Path.{◌≡◌, refl}
-use Prim.Native.Nat.{ℕ, ◌+◌, ◌-◌, ◌≤◌, ◌<◌}
+use mathlib.Core.Path.{refl}
+use Prim.Native.Nat.{◌+◌}
 use native.Mathlib.Omega.{arith}
-use lib.ListN.{length, get_or, length-set}
+use lib.ListN.{get_or, length-set}
 use Rattle.rules.specs.Constants.{id_length}
 use Rattle.slots.proofs.Each.{store_next}
 use Rattle.reading.proofs.Bytes.{copied}
-use borrow.Author.Rules.{rules}
 use Rattle.reading.proofs.fields.id_bytes.Goals as goal
 
 pub loop-i-init : goal.loop-i-init

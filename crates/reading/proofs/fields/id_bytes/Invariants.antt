@@ -1,12 +1,8 @@
 -- The bytes below i are copied.
-use mathlib.Core.Path.{◌≡◌, refl}
+use mathlib.Core.Path.{◌≡◌}
 use Prim.Native.Nat.{ℕ, ◌+◌, ◌-◌, ◌≤◌, ◌<◌}
-use native.Mathlib.Omega.{arith}
-use lib.ListN.{length, get_or, length-set}
+use lib.ListN.{length, get_or}
 use Rattle.rules.specs.Constants.{id_length}
-use Rattle.slots.proofs.Each.{store_next}
-use Rattle.reading.proofs.Bytes.{copied}
-use borrow.Author.Rules.{rules}
 use Rattle.reading.proofs.fields.id_bytes.Given as goal
 
 abbrev pub invariant-loop-i : goal.invariant-loop-i

@@ -1,20 +1,12 @@
-use Prim.Native.Nat.{◌-◌, ◌*◌, ◌≤◌, ◌<◌}
+use Prim.Native.Nat.{ℕ, ◌-◌, ◌*◌, ◌≤◌, ◌<◌}
 use native.Mathlib.Omega.{arith}
-use lib.ListN.{length}
-use Rattle.reading.proofs.Groups.{Groups, group_below, groups_start, groups_end, groups_last, groups_large, groups_more}
-use borrow.Author.Rules.{rules}
+use Rattle.reading.proofs.Groups.{group_below, groups_start, groups_end, groups_last, groups_large, groups_more}
 use Rattle.reading.proofs.fields.number.Goals.{Start}
 use Rattle.reading.proofs.fields.number.Goals as goal
 
 -- a byte is below 256, and what a group adds is less than the weight of the next
-small : (c : Start) → c.wide-b.result < 256
-small c = omega (arith, c.wide-b.ensures, c.shared_slice_known-in-loop-i-1.given c.loop-i.i)
-
-abbrev Adds : Start → Type 0
-Adds c = let weight = c.loop-i.weight in (c.wide-b.result - 128) * weight ≤ 127 * weight
-
-adds : (c : Start) → Adds c
-adds c = group_below _ _ (omega (arith, small c))
+adds : (b weight : ℕ) → b < 256 → (b - 128) * weight ≤ 127 * weight
+adds b weight h = group_below (b - 128) weight (omega arith)
 
 pub loop-i-init : goal.loop-i-init
 loop-i-init c = groups_start c.args.s.now c.args.at
@@ -31,16 +23,13 @@ returns-then-weight-ge-LARGE_WEIGHT c =
     groups_large c.loop-i.invariant (omega arith) (omega arith) (omega arith) (omega (arith, far))
 
 pub overflow_mul-low : goal.overflow_mul-low
-overflow_mul-low c = omega (arith, adds c.before.before.before.before.before.before.before.before)
+overflow_mul-low c = omega (arith, adds c.wide-b.result c.loop-i.weight (omega (arith, c.type_inv.s c.loop-i.i)))
 
 pub overflow_add-low : goal.overflow_add-low
-overflow_add-low c = omega (arith, adds c.before.before.before.before.before.before.before.before)
+overflow_add-low c = omega (arith, adds c.wide-b.result c.loop-i.weight (omega (arith, c.type_inv.s c.loop-i.i)))
 
 pub loop-i-preserved : goal.loop-i-preserved
-loop-i-preserved c =
-    let u = small c.before.before.before.before.before.before.before.before in
-    let e = c.wide-b.ensures in
-    rw e (groups_more c.loop-i.invariant (omega arith) (omega arith) (omega (arith, u, e)) (omega arith))
+loop-i-preserved c = rw c.wide-b.ensures (groups_more c.loop-i.invariant (omega arith) (omega arith) (omega (arith, c.type_inv.s c.loop-i.i)) (omega arith))
 
 pub returns : goal.returns
 returns c = groups_end c.loop-i.invariant (omega arith) (omega (arith, c.well_formed.0.1))

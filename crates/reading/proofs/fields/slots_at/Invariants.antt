@@ -1,11 +1,5 @@
 -- The slots in the set are the front of the list, and the bytes from `next` on say the rest (`Rising`).
-use mathlib.Core.Path.{refl}
-use Prim.Native.Nat.{◌+◌}
-use native.Mathlib.Omega.{arith}
-use lib.ListN.{replicate, get_or-replicate}
-use Rattle.slots.specs.Set.{word_count}
-use Rattle.slots.proofs.Words.{has_none}
-use Rattle.reading.proofs.Rising.{Rising, Right, rising_start, rising_bad, rising_more, rising_ends, slot_wrong, slot_good}
+use Rattle.reading.proofs.Rising.{Rising}
 use Rattle.reading.proofs.fields.slots_at.Given as goal
 
 abbrev pub invariant-loop-left : goal.invariant-loop-left
