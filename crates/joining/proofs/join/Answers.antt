@@ -48,13 +48,13 @@ chooses : (c : (lts.After-choose_place tie.the-claims reads.Pre reads.Post)) (ts
 unfolding request_of
 chooses c ts = let s = c.before.before.before.before.before.before.before.before.before.before.before in c.choose_place-choice.ensures (group ts s) (request s) (members_are ts (had s)) refl
 
-chosen : (c : (lts.Past-After-known_told tie.the-claims reads.Pre reads.Post)) (ts : List (Option G.Topic)) → let s = c.before.before.before.before.before.before.before.before.before.before.before.before in Hit (has_place (group ts s) (request s).id) (join_place (group ts s) (request s)) c.found-1.given.0.0.0
-chosen c ts = hit c.found-1.given.1 (chooses c.before ts).place_is
+chosen : (c : (lts.Past-After-known_told tie.the-claims reads.Pre reads.Post)) (ts : List (Option G.Topic)) → let s = c.before.before.before.before.before.before.before.before.before.before.before.before in Hit (has_place (group ts s) (request s).id) (join_place (group ts s) (request s)) c.in-At.p.0
+chosen c ts = hit c.in-At.is (chooses c.before ts).place_is
 
 -- ---- the needs
 
 -- the seat at the place of a known member has its ID, whatever the topics are
-ready : (c : (lts.Else3 tie.the-claims reads.Pre reads.Post)) → let s = c.before.before.before.before.before.before.before.before.before.before.before.before.before.before.before in Ready (had s) c.found-1.given.0.0.0 c.choose_place-choice.result.known s.args.b.id
+ready : (c : (lts.Else3 tie.the-claims reads.Pre reads.Post)) → let s = c.before.before.before.before.before.before.before.before.before.before.before.before.before.before.before in Ready (had s) c.in-At.p.0 c.choose_place-choice.result.known s.args.b.id
 unfolding request_of
 ready c =
     let s = c.before.before.before.before.before.before.before.before.before.before.before.before.before.before.before in
@@ -105,7 +105,7 @@ returns-in_default c =
       same_refused e (had s),
       λ ts.
           took_refused e (group ts s) b l
-          ∙ sym (row_full (group ts s) (request s) b l (in_time c.before.before.before.before.before.before.before ts) (well_formed c.before.before.before.before.before) (miss _ c.before.enum_told-1.given.1 (chooses c.before.before.before ts).place_is)),
+          ∙ sym (row_full (group ts s) (request s) b l (in_time c.before.before.before.before.before.before.before ts) (well_formed c.before.before.before.before.before) (miss _ c.in_default.is (chooses c.before.before.before ts).place_is)),
     )
 
 pub returns-then-at_end : goal.returns-then-at_end

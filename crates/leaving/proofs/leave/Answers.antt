@@ -73,7 +73,7 @@ returns-in-At c =
       (e l).0,
       λ ts.
           let g = view_parts ts (had s) in
-          let h = hit c.before.found-1.given.1 (known_in ts (had s) _ _ c.find-found.ensures) in
+          let h = hit c.in-At.is (known_in ts (had s) _ _ c.find-found.ensures) in
           (e l).1 ts
           ∙ ap (λ (p : ℕ). carried g (leave_at g p a.b.tick) a.records.now l) (sym h.first)
           ∙ sym (leave_step g (request_of a.b owned) a.records.now l (forward c.before.before.before.before.before.before.before.before.before.before.before.before.before.before ts) (nonzero c.before.before.before.before.before.before.before.before.before.before.before.before) h.found),
@@ -91,5 +91,5 @@ returns-in-Nowhere c =
           let g = view_parts ts (had s) in
           took_refused e g a.records.now l
           ∙ sym (row_unknown g (request_of a.b owned) a.records.now l (forward c.before.before.before.before.before.before ts) (nonzero c.before.before.before.before)
-          (miss _ c.before.enum_told-1.given.1 (known_in ts (had s) _ _ c.find-found.ensures))),
+          (miss _ c.in-Nowhere.is (known_in ts (had s) _ _ c.find-found.ensures))),
     )

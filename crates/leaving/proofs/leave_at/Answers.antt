@@ -24,7 +24,7 @@ abbrev had : (lts.Start tie.the-claims reads.Pre reads.Post) → Parts
 had s = let a = s.args in parts a.head.now a.members.now a.target.now a.holder.now a.waiting.now
 
 abbrev start : (lts.After-leave_records_len tie.the-claims reads.Pre reads.Post) → (lts.Start tie.the-claims reads.Pre reads.Post)
-start c = c.before.before.before.before.before.before.before.before.before.before.before.before.before
+start c = c.before.before.before.before.before.before.before.before
 
 -- the records are those of the effect
 recorded : (c : (lts.After-leave_records_len tie.the-claims reads.Pre reads.Post)) (ts : List (Option Topic))

@@ -38,7 +38,7 @@ s₀ c =
 abbrev s₁ : (c : (lts.After-put_target_front tie.the-claims reads.Pre reads.Post)) → let k = c.before.before.before.before.before.before.before in After (slots k ∷ []) k
 s₁ c = first (s₀ c.before.before.before.before.before.before.before) c.put_target_front-at.ensures
 
-abbrev s₂ : (c : (lts.After-put_differences tie.the-claims reads.Pre reads.Post)) → After [] c.before.before.before.before.before.before.before.before.before.before
+abbrev s₂ : (c : (lts.After-put_differences tie.the-claims reads.Pre reads.Post)) → After [] c.before.before.before.before.before.before.before.before.before.before.before
 s₂ c = next (s₁ c.before.before.before.before) c.put_differences.ensures
 
 pub bounds-counts-p : goal.bounds-counts-p

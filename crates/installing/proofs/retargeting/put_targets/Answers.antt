@@ -26,10 +26,10 @@ pub loop-i-init : goal.loop-i-init
 loop-i-init c = (omega arith, begin _ _ _ (append-nil _) c.requires.1)
 
 pub slice_bounds-put_target-count : goal.slice_bounds-put_target-count
-slice_bounds-put_target-count c = omega (arith, in_range_lem (turn (c)))
+slice_bounds-put_target-count c = omega (arith, in_range_lem (turn c.before))
 
 pub slice_bounds-put_target-start : goal.slice_bounds-put_target-start
-slice_bounds-put_target-start c = omega (arith, in_range_lem (turn (c)))
+slice_bounds-put_target-start c = omega (arith, in_range_lem (turn c.before))
 
 pub put_target-at-requires : goal.put_target-at-requires
 put_target-at-requires c = (c.requires.0, omega arith, room (turn c.before.before))
