@@ -18,14 +18,13 @@ use Rattle.coordinator.proofs.ByKind.{taken_as}
 use Rattle.coordinator.proofs.heartbeats.heartbeat.Lts as lts
 use Rattle.coordinator.proofs.heartbeats.heartbeat.Reads as reads
 use Rattle.coordinator.proofs.heartbeats.heartbeat.Tie as tie
-use Rattle.coordinator.proofs.heartbeats.heartbeat.Goals.{Start}
 use Rattle.coordinator.proofs.heartbeats.heartbeat.Goals as goal
 
-abbrev request : Start → Request
+abbrev request : (lts.Start tie.the-claims reads.Pre reads.Post) → Request
 request c = request_of c.args.b c.args.owned.now
 
 -- what is lent
-abbrev lent : Start → Parts
+abbrev lent : (lts.Start tie.the-claims reads.Pre reads.Post) → Parts
 lent c = parts c.args.head.now c.args.members.now c.args.target.now c.args.holder.now c.args.waiting.now
 
 -- the epoch is handed on as it came
@@ -45,24 +44,24 @@ pub returns-in-Joins : goal.returns-in-Joins
 unfolding view_kind
 returns-in-Joins c =
     let o = c.join.ensures c.args.list.now in
-    (o.0, λ topics. by_kind c.before.before.before.before.before.before.before.before.before.before.before.before topics c.before.enum_told-1.given.1 (o.1 topics))
+    (o.0, λ topics. by_kind c.before.before.before.before.before.before.before.before.before.before.before topics c.in-Joins.is (o.1 topics))
 
 pub returns-in-Leaves : goal.returns-in-Leaves
 unfolding view_kind
 returns-in-Leaves c =
     let a = c.args in
     let o = c.leave.ensures a.owned.now a.list.now in
-    (o.0, λ topics. by_kind c.before.before.before.before.before.before.before.before.before.before.before.before topics c.before.enum_told-in-Leaves-1.given.1 (o.1 topics))
+    (o.0, λ topics. by_kind c.before.before.before.before.before.before.before.before.before.before.before topics c.in-Leaves.is (o.1 topics))
 
 pub returns-in-Invalid : goal.returns-in-Invalid
 unfolding view_kind
 returns-in-Invalid c =
     let a = c.args in
-    let o = c.refuse_epoch.ensures (lent c.before.before.before.before.before.before.before.before.before) a.owned.now a.records.now a.list.now refl in
-    (o.0, λ topics. by_kind c.before.before.before.before topics c.before.enum_told-in-Invalid-1.given.1 (o.1 topics))
+    let o = c.refuse_epoch.ensures (lent c.before.before.before.before.before.before.before.before) a.owned.now a.records.now a.list.now refl in
+    (o.0, λ topics. by_kind c.before.before.before topics c.in-Invalid.is (o.1 topics))
 
 pub returns-in-Ordinary : goal.returns-in-Ordinary
 unfolding view_kind
 returns-in-Ordinary c =
     let o = c.ordinary.ensures in
-    (o.0, λ topics. by_kind c.before.before.before.before.before.before.before.before.before.before.before.before.before.before.before.before topics c.before.kind-1.given.1 (o.1 topics))
+    (o.0, λ topics. by_kind c.before.before.before.before.before.before.before.before.before.before.before.before.before.before topics c.in-Ordinary.is (o.1 topics))
