@@ -17,7 +17,7 @@ returns-in-Right c =
     let rest = drop (length heading) a.bytes.now in (
       c.read_batches.ensures
           ∙ ap (λ (g : Group). read_batches (suc (length rest)) a.tick (length heading) g rest) c.renew.ensures
-          ∙ opened a.bytes.now a.tick _ c.read_heading-heading.ensures Opening.Right c.before.enum_told-1.given.1,
+          ∙ opened a.bytes.now a.tick _ c.read_heading-heading.ensures Opening.Right c.in-Right.is,
       journal_theorems,
     )
 
@@ -26,7 +26,7 @@ unfolding reading_as
 returns-in-Wrong c =
     let a = c.args in (
       ap (λ (g : Group). record { group = g; verdict = refused_at 0 }) c.renew.ensures
-          ∙ opened a.bytes.now a.tick _ c.read_heading-heading.ensures Opening.Wrong c.before.enum_told-in-Wrong-1.given.1,
+          ∙ opened a.bytes.now a.tick _ c.read_heading-heading.ensures Opening.Wrong c.in-Wrong.is,
       journal_theorems,
     )
 
@@ -35,6 +35,6 @@ unfolding reading_as
 returns-in-Cut c =
     let a = c.args in (
       ap (λ (g : Group). record { group = g; verdict = torn_from 0 }) c.renew.ensures
-          ∙ opened a.bytes.now a.tick _ c.read_heading-heading.ensures Opening.Cut c.before.enum_told-in-Cut-1.given.1,
+          ∙ opened a.bytes.now a.tick _ c.read_heading-heading.ensures Opening.Cut c.in-Cut.is,
       journal_theorems,
     )
