@@ -1,5 +1,4 @@
 -- What the reader of a journal is promised to give.
-use Rattle.std.specs.Prelude.{ℕ, ◌≡◌, List}
 use Rattle.rules.specs.Journal as J
 use Rattle.group.specs.declared.Group.{Group}
 use Rattle.group.specs.View.{view}

@@ -8,7 +8,6 @@ use Rattle.rules.specs.Basics.{any, default, find}
 use Rattle.rules.specs.Group as G
 use Rattle.rules.specs.Group.{is_member, known, place_of, member_at}
 use Rattle.rules.specs.Effects.{changed}
-use Rattle.tables.specs.View.{view_lists}
 use Rattle.group.specs.Columns.{view_members, seat_at}
 use Rattle.group.specs.Members.{heard_at}
 use Rattle.group.specs.Parts.{Parts, view_parts}

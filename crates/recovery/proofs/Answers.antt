@@ -10,7 +10,7 @@ use Rattle.rules.specs.Group.{Group, fresh}
 use Rattle.rules.specs.Course.{Call}
 use Rattle.rules.specs.Readings.{Item, happens, next_group, reads}
 use Rattle.rules.specs.Journal.{counted, entry, heading, stored_by}
-use Rattle.rules.specs.Brokers.{AnswersCount, Honest, Life, Unanswered, acts, answered_in, born, born_at, counted_in, fails, history_of, only_told, told_in}
+use Rattle.rules.specs.Brokers.{AnswersCount, Unanswered, acts, answered_in, born, born_at, counted_in, fails, history_of, only_told, told_in}
 
 told_append : (is js : List Item) → told_in (is ++ js) ≡ told_in is ++ told_in js
 unfolding told_in

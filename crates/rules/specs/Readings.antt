@@ -7,7 +7,7 @@ use Rattle.std.proofs.Math.Option.{some}
 use Rattle.rules.specs.Basics.{if◌then◌else◌}
 use Rattle.rules.specs.Group.{Group}
 use Rattle.rules.specs.Ledger.{Observation, reckon}
-use Rattle.rules.specs.Course.{Call, Course, HeldByOne, History, Installed, Typed, begun, in_force_after, next, observe, of_sender, seen_of, stepped, subscription_after}
+use Rattle.rules.specs.Course.{Call, Course, HeldByOne, History, Installed, Typed, begun, in_force_after, observe, of_sender, seen_of, stepped, subscription_after}
 use Rattle.rules.specs.Rounds.{From, RegularCall, Settled}
 use Rattle.rules.specs.Batches.{retimed}
 

@@ -12,7 +12,7 @@ use lib.ListN.{get_or}
 use lib.Pow.{shr-shr}
 use Rattle.rules.specs.Constants.{slot_count}
 use Rattle.slots.specs.Set.{has, NextFrom}
-use Rattle.slots.specs.Walk.{Left, Steps}
+use Rattle.slots.specs.Walk.{Steps}
 use Rattle.slots.specs.declared.walking.Step.{Step}
 use Rattle.slots.proofs.Next.{none_join, word_at, word_before, word_none, word_on}
 

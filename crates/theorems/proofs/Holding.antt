@@ -2,7 +2,7 @@
 use Prim.Native.Nat.{ℕ}
 use mathlib.Core.Path.{◌≡◌, sym, ◌∙◌}
 use mathlib.Core.Logic.{◌⊎◌, inl, inr}
-use mathlib.Core.Bool.{true, false≢true}
+use mathlib.Core.Bool.{false≢true}
 use mathlib.Core.List.{List, Memᴰ}
 use lib.ListN.{get_or}
 use Rattle.rules.specs.Group.{SlotState, assigned, free_slot, revoking, set_a, set_m, set_p, targeted}

@@ -15,7 +15,7 @@ use borrow.Author.Tests.{eqb-true, eq-eqb, ne_eqb}
 use Rattle.rules.specs.Basics.{any, concat_map, default, find, to_list, same}
 use Rattle.rules.specs.Constants.{id_length, max_members, no_place}
 use Rattle.rules.specs.Group.{Group, Member, SlotState, assigned, free_slot, fresh, is_member, known, lowest_free, place_of, revoking, set_a, targeted, vacant}
-use Rattle.rules.specs.Records.{MemberMetadata, Record, TargetAssignment, all_bytes, group_epoch, member_gone, member_is, target_is, parts_of}
+use Rattle.rules.specs.Records.{MemberMetadata, Record, TargetAssignment, all_bytes, group_epoch, member_is, target_is, parts_of}
 use Rattle.rules.specs.Event.{Event, Request, heartbeat, install, sweep, topic}
 use Rattle.rules.specs.Answers.{unless_refused}
 use Rattle.rules.specs.Refusals.{Kind, heartbeat_table, invalid, joins, kind_of, leaves, not_held_by, ordinary, table, sender_of}

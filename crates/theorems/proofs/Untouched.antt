@@ -14,7 +14,7 @@ use lib.Dec.{eqb, leb, ltb}
 use borrow.Author.Tests.{eq-eqb, eqb-false, eqb-true, leb-false, ltb-false, ltb-true, ne_eqb}
 use Rattle.rules.specs.Basics.{any, first_with, if◌then◌else◌, same}
 use Rattle.rules.specs.Constants.{max_partitions, no_place, slot_count, topic_count}
-use Rattle.rules.specs.Group.{Group, Topic, assigned, exists, revoking, subscribes, targeted}
+use Rattle.rules.specs.Group.{Group, Topic, exists, subscribes}
 use Rattle.rules.specs.Records.{all_bytes}
 use Rattle.rules.specs.Event.{install, topic}
 use Rattle.rules.specs.Refusals.{allows, bad_entry, count_changes, first_bad, has_id, misplaced, table, topic_bad, topic_changes, topic_raises, zero_id}

@@ -10,7 +10,7 @@ use lib.Seq.{get_or-set_other}
 use lib.Dec.{eqb}
 use borrow.Author.Tests.{eqb-true, ne_eqb}
 use Rattle.rules.specs.Constants.{no_place}
-use Rattle.rules.specs.Group.{Group, SlotState, assigned, revoking, set_m, set_p, targeted}
+use Rattle.rules.specs.Group.{Group, SlotState, revoking, set_m, set_p, targeted}
 use Rattle.rules.specs.Effects.{changed, remove, vacated}
 use Rattle.rules.specs.Accepted.{Bare, Stays}
 use Rattle.theorems.proofs.Cases.{eq_cases, if_cases}

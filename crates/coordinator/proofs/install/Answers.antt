@@ -1,7 +1,6 @@
 -- `coordinator::install` meets its contract, which is that of `installing::install`: an epoch that is passed on is the same number.
 use lib.IntN.{ℤ}
 use mathlib.Core.Path.{ap, ◌∙◌}
-use borrow.Author.Rules.{rules}
 use mir.Facts.{to_z-of_z}
 use Rattle.rules.specs.Event.{install, with_rule}
 use Rattle.rules.specs.Step.{step}

@@ -7,7 +7,6 @@ use lib.IntN.{ℤ}
 use lib.ListN.{length, get_or}
 use mir.Facts.{to_z-of_z}
 use borrow.Author.Tests.{eq-eqb, ne_eqb}
-use borrow.Author.Rules.{rules}
 use Rattle.rules.specs.Constants.{slot_count}
 use Rattle.rules.specs.Refusals.{is_epoch, first_bad}
 use Rattle.rules.proofs.Lists.{not_is_false, not_is_true}

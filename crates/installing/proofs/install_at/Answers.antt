@@ -4,7 +4,6 @@ use mathlib.Core.List.{List}
 use Prim.Native.Nat.{ℕ}
 use native.Mathlib.Omega.{arith}
 use lib.ListN.{get_or, set}
-use borrow.Author.Rules.{rules}
 use Rattle.rules.specs.Effects.{install_records, install_effect}
 use Rattle.rules.specs.declared.Answer.TheVariants.{Done}
 use Rattle.group.specs.Parts.{TargetParts, Holding, view_target_parts}

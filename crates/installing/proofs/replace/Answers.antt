@@ -1,11 +1,10 @@
-use Prim.Native.Nat.{ℕ, ◌-◌, ◌≤◌}
 use native.Mathlib.Omega.{arith}
 use mathlib.Core.Path.{◌≡◌, refl, sym, ◌∙◌}
 use mathlib.Core.List.{map-id}
 use lib.ListN.{length}
 use borrow.Author.Rules.{rules}
 use Rattle.rules.specs.Constants.{slot_count}
-use Rattle.group.proofs.Filling.{Filled, fill_begin, fill_next, fill_end}
+use Rattle.group.proofs.Filling.{fill_begin, fill_next, fill_end}
 use Rattle.installing.proofs.replace.Invariants.{itself}
 use Rattle.installing.proofs.replace.Goals as goal
 

@@ -1,12 +1,7 @@
 -- The target is filled with the entries as far as the loop went (`Filled`).
 use Prim.Native.Nat.{ℕ, ◌-◌, ◌≤◌}
-use native.Mathlib.Omega.{arith}
-use mathlib.Core.Path.{◌≡◌, refl, sym, ◌∙◌}
-use mathlib.Core.List.{map-id}
-use lib.ListN.{length}
-use borrow.Author.Rules.{rules}
 use Rattle.rules.specs.Constants.{slot_count}
-use Rattle.group.proofs.Filling.{Filled, fill_begin, fill_next, fill_end}
+use Rattle.group.proofs.Filling.{Filled}
 use Rattle.installing.proofs.replace.Given as goal
 
 abbrev pub itself : ℕ → ℕ

@@ -1,5 +1,4 @@
 -- The member is found at its own place; or it is not known, and the lowest free place is looked for.
-use borrow.Author.Rules.{rules}
 use Rattle.group.proofs.Finding.{hit, miss}
 use Rattle.joining.proofs.JoinRows.{known_among, free_among, own_place, free_place}
 use Rattle.joining.proofs.choose_place.Goals as goal

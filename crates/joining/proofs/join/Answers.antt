@@ -2,10 +2,9 @@
 -- chosen.
 use native.Mathlib.Omega.{arith}
 use mathlib.Core.Path.{◌≡◌, refl, sym, ◌∙◌}
-use mathlib.Core.Bool.{true, false, ◌||◌}
+use mathlib.Core.Bool.{false, ◌||◌}
 use mathlib.Core.List.{List, []}
 use mathlib.Core.Option.{Option}
-use borrow.Author.Rules.{rules}
 use Rattle.rules.specs.Event as E
 use Rattle.rules.specs.Group as G
 use Rattle.rules.specs.Refusals.{goes_back, malformed, lacking}

@@ -6,7 +6,6 @@ use mathlib.Core.Path.{◌≡◌, refl, sym, ap, ◌∙◌, subst}
 use mathlib.Core.Bool.{Bool, false, ◌&&◌}
 use lib.Dec.{leb}
 use lib.ListN.{get_or, set}
-use borrow.Author.Rules.{rules}
 use Rattle.rules.specs.Basics.{any}
 use Rattle.rules.specs.Constants.{last_epoch}
 use Rattle.rules.specs.Group.{targeted}
@@ -19,7 +18,7 @@ use Rattle.group.specs.Parts.{Parts, parts}
 use Rattle.group.specs.declared.Seat.{Seat}
 use Rattle.group.proofs.Rows.{raised_below}
 use Rattle.events.proofs.Carrying.{same_refused}
-use Rattle.joining.specs.Joining.{Ready, metadata_in}
+use Rattle.joining.specs.Joining.{Ready}
 use Rattle.joining.proofs.JoinRows.{join_no_room, join_done}
 use Rattle.joining.proofs.join_at.Lts as lts
 use Rattle.joining.proofs.join_at.Reads as reads

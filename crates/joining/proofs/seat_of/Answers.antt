@@ -1,6 +1,6 @@
 -- A known member's record keeps its ID, which is the joiner's.
 use Prim.Native.Nat.{ℕ}
-use mathlib.Core.Path.{◌≡◌, ap, ◌∙◌}
+use mathlib.Core.Path.{ap, ◌∙◌}
 use mathlib.Core.List.{List}
 use Rattle.group.specs.Members.{joined_as}
 use Rattle.group.specs.Transitions.{seat_of, member_rejoined}

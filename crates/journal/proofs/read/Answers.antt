@@ -1,7 +1,6 @@
-use Prim.Native.Nat.{ℕ, suc}
+use Prim.Native.Nat.{suc}
 use mathlib.Core.Path.{ap, ◌∙◌}
 use lib.ListN.{length, drop}
-use borrow.Author.Rules.{rules}
 use Rattle.rules.specs.Group.{Group}
 use Rattle.rules.specs.Journal.{heading, read_batches, refused_at, torn_from}
 use Rattle.recovery.proofs.All.{journal_theorems}

@@ -1,15 +1,10 @@
-use Prim.Native.Nat.{ℕ, ◌+◌, ◌-◌, ◌≤◌, ◌<◌}
 use native.Mathlib.Omega.{arith}
-use mathlib.Core.Path.{◌≡◌, refl, sym, ap, ◌∙◌}
-use mathlib.Core.List.{List, []}
-use mathlib.Core.Bool.{Bool}
-use lib.ListN.{length}
-use borrow.Author.Rules.{rules}
+use mathlib.Core.Path.{sym, ◌∙◌}
+use mathlib.Core.List.{[]}
 use Rattle.frames.specs.declared.Extent.TheVariants as X
-use Rattle.group.specs.declared.Group as Code
 use Rattle.group.specs.View.{view}
 use Rattle.journal.specs.Readings.{reading_as}
-use Rattle.journal.proofs.Going.{batch_bad, batch_good, from, placed, turns}
+use Rattle.journal.proofs.Going.{batch_bad, batch_good, placed, turns}
 use Rattle.journal.proofs.read_batches.Invariants.{of}
 use Rattle.journal.proofs.read_batches.Goals as goal
 

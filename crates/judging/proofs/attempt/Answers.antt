@@ -1,7 +1,6 @@
 -- What was copied first is put back last, if the candidate did not write the batch.
 use mathlib.Core.Path.{refl, sym, ◌∙◌}
 use mathlib.Core.Bool.{true≢false}
-use borrow.Author.Rules.{rules}
 use Rattle.group.specs.declared.Group.{Group}
 use Rattle.judging.proofs.Candidates.{was_good, was_bad}
 use Rattle.judging.proofs.attempt.Goals.{Start}

@@ -1,7 +1,6 @@
 -- No batch by its length, none by its records, or a candidate.
 use mathlib.Core.Path.{refl, ◌∙◌}
 use borrow.Author.Tests.{not-true, not-false}
-use borrow.Author.Rules.{rules}
 use Rattle.judging.specs.Reads.{good_as}
 use Rattle.judging.proofs.Reading.{fair, none_read, nothing_read, records_read, too_long}
 use Rattle.judging.proofs.read_batch_with.Goals as goal

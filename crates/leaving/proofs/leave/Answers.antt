@@ -5,7 +5,6 @@ use mathlib.Core.Bool.{false}
 use mathlib.Core.List.{List}
 use mathlib.Core.Option.{Option}
 use mathlib.Core.Path.{◌≡◌, sym, ap, ◌∙◌}
-use borrow.Author.Rules.{rules}
 use Rattle.rules.specs.Effects.{leave_at}
 use Rattle.rules.specs.Group.{Topic}
 use Rattle.rules.specs.Refusals.{goes_back, zero_id}

@@ -5,7 +5,6 @@ use mathlib.Core.List.{List}
 use mathlib.Core.Option.{Option}
 use mathlib.Core.Path.{◌≡◌, refl, ap}
 use lib.ListN.{set}
-use borrow.Author.Rules.{rules}
 use Rattle.rules.specs.Group.{Topic}
 use Rattle.rules.specs.Effects.{leave_records, leave_at}
 use Rattle.rules.specs.declared.Answer.TheVariants.{Left}

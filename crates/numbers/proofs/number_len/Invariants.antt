@@ -1,11 +1,9 @@
 -- `numbers::number_len` meets its contract. The invariant: what is counted and the bytes of what is left are together one more than the bytes of x.
 -- A u32 takes at most five bytes, so the count fits.
-use mathlib.Core.Path.{◌≡◌, refl}
-use Prim.Native.Nat.{◌+◌, ◌/◌}
-use native.Mathlib.Omega.{arith}
+use mathlib.Core.Path.{◌≡◌}
+use Prim.Native.Nat.{◌+◌}
 use lib.ListN.{length}
 use Rattle.rules.specs.Records.{number}
-use Rattle.rules.proofs.Number.{number_small, number_more, number_five, number_pos}
 use Rattle.numbers.proofs.number_len.Given as goal
 
 abbrev pub invariant-loop-rest : goal.invariant-loop-rest

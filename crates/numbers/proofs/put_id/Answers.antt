@@ -1,13 +1,13 @@
 use mathlib.Core.Path.{◌≡◌, sym, ap, ◌∙◌}
-use mathlib.Core.List.{[], ◌∷◌, append-nil}
-use Prim.Native.Nat.{ℕ, ◌-◌, ◌≤◌, ◌<◌}
+use mathlib.Core.List.{append-nil}
+use Prim.Native.Nat.{ℕ, ◌<◌}
 use native.Mathlib.Omega.{arith}
 use native.Mathlib.Numerals.{add-one}
 use lib.ListN.{length, drop}
 use lib.Seq.{drop-cons, drop-length}
 use borrow.Author.Rules.{rules}
 use Rattle.rules.specs.Constants.{id_length}
-use Rattle.numbers.proofs.Writing.{Writing, begin, same_len, put_one, ended}
+use Rattle.numbers.proofs.Writing.{begin, same_len, put_one, ended}
 use Rattle.numbers.proofs.put_id.Goals as goal
 
 pub loop-i-init : goal.loop-i-init

@@ -1,14 +1,9 @@
 -- `numbers::put_id` meets its contract. The invariant: the ID goes to the front of the buffer, its first i bytes are there, and the rest of it is to come.
-use mathlib.Core.Path.{◌≡◌, sym, ap, ◌∙◌}
-use mathlib.Core.List.{[], ◌∷◌, append-nil}
-use Prim.Native.Nat.{ℕ, ◌-◌, ◌≤◌, ◌<◌}
-use native.Mathlib.Omega.{arith}
-use native.Mathlib.Numerals.{add-one}
-use lib.ListN.{length, drop}
-use lib.Seq.{drop-cons, drop-length}
-use borrow.Author.Rules.{rules}
+use mathlib.Core.List.{[], ◌∷◌}
+use Prim.Native.Nat.{◌-◌, ◌≤◌}
+use lib.ListN.{drop}
 use Rattle.rules.specs.Constants.{id_length}
-use Rattle.numbers.proofs.Writing.{Writing, begin, same_len, put_one, ended}
+use Rattle.numbers.proofs.Writing.{Writing}
 use Rattle.numbers.proofs.put_id.Given as goal
 
 abbrev pub invariant-loop-i : goal.invariant-loop-i

@@ -1,10 +1,9 @@
 use mathlib.Core.Path.{refl}
-use mathlib.Core.List.{[], ◌∷◌, append-nil}
+use mathlib.Core.List.{append-nil}
 use native.Mathlib.Omega.{arith}
 use lib.ListN.{length-set}
-use Rattle.rules.specs.Records.{number}
 use Rattle.rules.proofs.Number.{number_small, number_more, number_pos}
-use Rattle.numbers.proofs.Writing.{Writing, begin, to_go₁, same_len, put_one, ended}
+use Rattle.numbers.proofs.Writing.{begin, to_go₁, same_len, put_one, ended}
 use Rattle.numbers.proofs.put_number.Goals as goal
 
 pub loop-rest-init : goal.loop-rest-init

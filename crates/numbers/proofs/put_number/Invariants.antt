@@ -1,12 +1,8 @@
 -- `numbers::put_number` meets its contract. The invariant: the bytes of x go to the front of the buffer, `at` of them are there, and those of `rest` are to come.
 -- A turn of the loop writes one byte of them, and the last store the only one that is left.
-use mathlib.Core.Path.{refl}
-use mathlib.Core.List.{[], ◌∷◌, append-nil}
-use native.Mathlib.Omega.{arith}
-use lib.ListN.{length-set}
+use mathlib.Core.List.{[], ◌∷◌}
 use Rattle.rules.specs.Records.{number}
-use Rattle.rules.proofs.Number.{number_small, number_more, number_pos}
-use Rattle.numbers.proofs.Writing.{Writing, begin, to_go₁, same_len, put_one, ended}
+use Rattle.numbers.proofs.Writing.{Writing}
 use Rattle.numbers.proofs.put_number.Given as goal
 
 abbrev pub invariant-loop-rest : goal.invariant-loop-rest

@@ -5,7 +5,6 @@ use mathlib.Core.Bool.{false}
 use mathlib.Core.List.{List}
 use mathlib.Core.Option.{Option, some}
 use lib.ListN.{length, set}
-use borrow.Author.Rules.{rules}
 use Rattle.rules.specs.Constants.{heartbeat_interval}
 use Rattle.rules.specs.Group.{Topic}
 use Rattle.rules.specs.Records.{all_bytes}

@@ -1,10 +1,8 @@
 -- The plan is the rules', so that its effect is; row 1002 is tried on what it raises. Assumes nothing.
-use native.Mathlib.Omega.{arith}
 use mathlib.Core.Path.{◌≡◌, refl, sym, ap, ◌∙◌, subst}
 use mathlib.Core.Bool.{false}
 use mathlib.Core.List.{List, []}
 use mathlib.Core.Option.{Option}
-use borrow.Author.Rules.{rules}
 use Rattle.rules.specs.Basics.{any, default}
 use Rattle.rules.specs.Event.{Request}
 use Rattle.rules.specs.Group.{Member, Topic}

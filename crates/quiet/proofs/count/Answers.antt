@@ -1,9 +1,8 @@
-use Prim.Native.Nat.{ℕ, ◌+◌, ◌-◌, ◌%◌, ◌≤◌}
+use Prim.Native.Nat.{ℕ, ◌+◌}
 use native.Mathlib.Omega.{arith}
 use mathlib.Core.Path.{◌≡◌, sym, ap, ◌∙◌}
-use borrow.Author.Rules.{rules}
 use Rattle.rules.specs.Constants.{slot_count}
-use Rattle.quiet.specs.Settling.{part_length, near_count}
+use Rattle.quiet.specs.Settling.{near_count}
 use Rattle.quiet.proofs.Counting.{nothing}
 use Rattle.quiet.proofs.count.Goals as goal
 

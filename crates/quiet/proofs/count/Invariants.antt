@@ -1,11 +1,8 @@
 -- A part at a time.
-use Prim.Native.Nat.{ℕ, ◌+◌, ◌-◌, ◌%◌, ◌≤◌}
-use native.Mathlib.Omega.{arith}
-use mathlib.Core.Path.{◌≡◌, sym, ap, ◌∙◌}
-use borrow.Author.Rules.{rules}
+use Prim.Native.Nat.{◌-◌, ◌%◌, ◌≤◌}
+use mathlib.Core.Path.{◌≡◌}
 use Rattle.rules.specs.Constants.{slot_count}
 use Rattle.quiet.specs.Settling.{part_length, near_count}
-use Rattle.quiet.proofs.Counting.{nothing}
 use Rattle.quiet.proofs.count.Given as goal
 
 abbrev pub invariant-loop-from : goal.invariant-loop-from

@@ -1,10 +1,7 @@
 -- The count of the part passed is kept.
-use Prim.Native.Nat.{ℕ, ◌+◌, ◌-◌, ◌≤◌}
-use native.Mathlib.Omega.{arith}
-use mathlib.Core.Path.{◌≡◌, sym, ap, ◌∙◌}
-use Rattle.tables.specs.Places.{near}
+use Prim.Native.Nat.{◌+◌, ◌-◌, ◌≤◌}
+use mathlib.Core.Path.{◌≡◌}
 use Rattle.quiet.specs.Settling.{part_length, near_count}
-use Rattle.quiet.proofs.Counting.{begin, next, skip}
 use Rattle.quiet.proofs.count_part.Given as goal
 
 abbrev pub invariant-loop-i : goal.invariant-loop-i

@@ -1,14 +1,9 @@
 -- Where the marks are all 0, each slot passed is settled. The list is a set of slots, so that its entries are in reach of the tables.
 use Prim.Native.Nat.{ℕ, ◌-◌, ◌≤◌, ◌<◌}
-use native.Mathlib.Omega.{arith}
 use mathlib.Core.Path.{◌≡◌}
 use mathlib.Core.Bool.{true}
 use lib.ListN.{length, get_or}
-use borrow.Author.Tests.{eqb-true}
-use Rattle.tables.proofs.Nearness.{or_nothing}
-use Rattle.search.proofs.SlotSets.{slot_below}
 use Rattle.quiet.specs.Settling.{settled_at}
-use Rattle.quiet.proofs.Marking.{unmarked, all_more}
 use Rattle.quiet.proofs.settled.Given as goal
 
 abbrev pub invariant-loop-i : goal.invariant-loop-i

@@ -1,11 +1,9 @@
 -- The count of the part passed is kept.
-use mathlib.Core.Path.{◌≡◌, sym, ap, ◌∙◌}
-use Prim.Native.Nat.{ℕ, ◌+◌, ◌-◌, ◌≤◌}
-use native.Mathlib.Omega.{arith}
+use mathlib.Core.Path.{◌≡◌}
+use Prim.Native.Nat.{◌+◌, ◌-◌, ◌≤◌}
 use lib.ListN.{take}
 use Rattle.search.specs.Occurrences.{occurs}
 use Rattle.search.specs.Places.{step}
-use Rattle.search.proofs.Counting.{begin, next, skip}
 use Rattle.search.proofs.count_words.Given as goal
 
 abbrev pub invariant-loop-i : goal.invariant-loop-i

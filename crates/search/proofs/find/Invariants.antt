@@ -1,16 +1,10 @@
 -- None of the places passed has the ID; a part that lacks its first word has none.
 use mathlib.Core.Path.{◌≡◌}
 use mathlib.Core.Bool.{false}
-use Prim.Native.Nat.{ℕ, ◌+◌, ◌-◌, ◌%◌, ◌≤◌, ◌<◌}
-use native.Mathlib.Decide.{dec_lt}
-use native.Mathlib.Omega.{arith}
+use Prim.Native.Nat.{ℕ, ◌-◌, ◌%◌, ◌≤◌, ◌<◌}
 use mathlib.Core.List.{List}
-use lib.ListN.{length, take}
 use Rattle.rules.specs.Constants.{max_members}
-use borrow.Author.Rules.{rules}
-use Rattle.search.specs.Occurrences.{occurs}
-use Rattle.search.proofs.Counting.{none_in}
-use Rattle.search.specs.Places.{cell_count, step, matches}
+use Rattle.search.specs.Places.{step, matches}
 use Rattle.search.proofs.find.Given as goal
 
 abbrev pub None : List ℕ → ℕ → ℕ → ℕ → ℕ → ℕ → Type 0

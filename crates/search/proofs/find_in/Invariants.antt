@@ -1,10 +1,7 @@
 -- None of the places passed has the ID.
-use mathlib.Core.Path.{◌≡◌, sym, ◌∙◌}
+use mathlib.Core.Path.{◌≡◌}
 use mathlib.Core.Bool.{false}
 use Prim.Native.Nat.{ℕ, ◌+◌, ◌-◌, ◌≤◌, ◌<◌}
-use native.Mathlib.Omega.{arith}
-use borrow.Author.Rules.{rules}
-use Rattle.tables.proofs.Nearness.{none_more}
 use Rattle.search.specs.Places.{step, matches}
 use Rattle.search.proofs.find_in.Given as goal
 

@@ -1,12 +1,10 @@
 use mathlib.Core.Path.{◌≡◌, refl, sym, ◌∙◌}
-use mathlib.Core.Bool.{true}
 use mathlib.Core.List.{[], ◌∷◌, append-nil}
-use Prim.Native.Nat.{◌+◌, ◌-◌, ◌≤◌, ◌<◌}
+use Prim.Native.Nat.{◌+◌, ◌-◌}
 use native.Mathlib.Omega.{arith}
 use Rattle.rules.specs.Basics.{keep, up_to}
 use Rattle.rules.specs.Constants.{slot_count}
 use Rattle.slots.specs.Set.{has, select, slots_of}
-use Rattle.slots.specs.Walk.{Left}
 use Rattle.numbers.proofs.Writing.{Writing, begin, to_go₁, same_len, put_one, ended}
 use Rattle.slots.proofs.Selecting.{select_in, next_ahead, next_skips}
 use Rattle.slots.proofs.list_slots.Goals as goal

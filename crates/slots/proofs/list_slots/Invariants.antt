@@ -1,15 +1,12 @@
 -- The slots from s on are still to be written; s is one of them, or the end. Those between one slot and the next are stepped over.
-use mathlib.Core.Path.{◌≡◌, refl, sym, ◌∙◌}
+use mathlib.Core.Path.{◌≡◌}
 use mathlib.Core.Bool.{true}
-use mathlib.Core.List.{[], ◌∷◌, append-nil}
-use Prim.Native.Nat.{◌+◌, ◌-◌, ◌≤◌, ◌<◌}
-use native.Mathlib.Omega.{arith}
-use Rattle.rules.specs.Basics.{keep, up_to}
+use mathlib.Core.List.{[], ◌∷◌}
+use Prim.Native.Nat.{◌-◌, ◌≤◌, ◌<◌}
 use Rattle.rules.specs.Constants.{slot_count}
 use Rattle.slots.specs.Set.{has, select, slots_of}
 use Rattle.slots.specs.Walk.{Left}
-use Rattle.numbers.proofs.Writing.{Writing, begin, to_go₁, same_len, put_one, ended}
-use Rattle.slots.proofs.Selecting.{select_in, next_ahead, next_skips}
+use Rattle.numbers.proofs.Writing.{Writing}
 use Rattle.slots.proofs.list_slots.Given as goal
 
 abbrev pub invariant-loop-s : goal.invariant-loop-s

@@ -1,13 +1,13 @@
 -- At each return the tests that led there say which row applies, or that none does; then the records and the group are those of the effect.
 use native.Mathlib.Omega.{arith}
-use mathlib.Core.Bool.{Bool, true, false, ◌&&◌}
+use mathlib.Core.Bool.{false, ◌&&◌}
 use Prim.Native.Nat.{◌<◌}
 use mathlib.Core.Path.{◌≡◌, refl, sym, ◌∙◌}
 use mathlib.Core.List.{[]}
 use lib.ListN.{length}
 use borrow.Author.Rules.{rules}
 use Rattle.rules.specs.Group.{Group}
-use Rattle.rules.specs.Refusals.{topic_bad, topic_raises, topic_changes, at_end}
+use Rattle.rules.specs.Refusals.{topic_bad, topic_raises, at_end}
 use Rattle.rules.specs.Effects.{topic_records, topic_effect, with_topic}
 use Rattle.rules.specs.declared.Answer.TheVariants.{Done}
 use Rattle.records.specs.Views.{view_topic_metadata}

@@ -1,12 +1,10 @@
 -- Two rows, and the second applies always.
 use Prim.Native.Nat.{ℕ}
 use mathlib.Core.Path.{◌≡◌, sym, ap, ◌∙◌}
-use mathlib.Core.Bool.{Bool}
 use mathlib.Core.List.{List}
 use mathlib.Core.Option.{Option}
 use lib.Dec.{leb}
 use lib.ListN.{get_or}
-use borrow.Author.Rules.{rules}
 use Rattle.rules.specs.Constants.{clock_limit}
 use Rattle.rules.specs.Group.{Topic, elapsed}
 use Rattle.rules.specs.Refusals.{goes_back}

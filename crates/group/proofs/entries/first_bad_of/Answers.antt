@@ -1,6 +1,4 @@
-use Rattle.std.proofs.Common.{◌≡◌, ◌-◌, ◌≤◌, length, drop, sym, refl, ◌∙◌, arith, rules}
-use Rattle.rules.specs.Basics.{first_with}
-use Rattle.group.specs.Entries.{entry_bad}
+use Rattle.std.proofs.Common.{sym, refl, ◌∙◌, arith, rules}
 use Rattle.group.proofs.Installing.{first_found, first_later, first_none}
 use Rattle.group.proofs.entries.first_bad_of.Goals as goal
 

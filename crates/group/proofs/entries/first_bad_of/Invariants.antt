@@ -1,8 +1,7 @@
 -- As long as no entry was refused, the first of the rest is the first of all. Assumes nothing.
-use Rattle.std.proofs.Common.{◌≡◌, ◌-◌, ◌≤◌, length, drop, sym, refl, ◌∙◌, arith, rules}
+use Rattle.std.proofs.Common.{◌≡◌, ◌-◌, ◌≤◌, length, drop}
 use Rattle.rules.specs.Basics.{first_with}
 use Rattle.group.specs.Entries.{entry_bad}
-use Rattle.group.proofs.Installing.{first_found, first_later, first_none}
 use Rattle.group.proofs.entries.first_bad_of.Given as goal
 
 abbrev pub invariant-loop-slot : goal.invariant-loop-slot

@@ -1,10 +1,9 @@
-use Rattle.std.proofs.Common.{◌-◌, ◌≤◌, sym, refl, arith, rules}
+use Rattle.std.proofs.Common.{sym, refl, arith}
 use mathlib.Core.Option.{none}
-use Rattle.rules.specs.Constants.{max_members}
 use Rattle.group.specs.Columns.{view_members}
 use Rattle.group.specs.Entries.{subscription_of}
 use Rattle.group.proofs.Columns.{members_long}
-use Rattle.group.proofs.Filling.{Filled, fill_begin, fill_next, fill_end}
+use Rattle.group.proofs.Filling.{fill_begin, fill_next, fill_end}
 use Rattle.group.proofs.entries.subscriptions_of.Goals as goal
 
 pub loop-k-init : goal.loop-k-init

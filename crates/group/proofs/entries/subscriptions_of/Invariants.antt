@@ -1,11 +1,9 @@
 -- The array is filled as far as the loop went (`Filled`). Assumes nothing.
-use Rattle.std.proofs.Common.{◌-◌, ◌≤◌, sym, refl, arith, rules}
-use mathlib.Core.Option.{none}
+use Rattle.std.proofs.Common.{◌-◌, ◌≤◌}
 use Rattle.rules.specs.Constants.{max_members}
 use Rattle.group.specs.Columns.{view_members}
 use Rattle.group.specs.Entries.{subscription_of}
-use Rattle.group.proofs.Columns.{members_long}
-use Rattle.group.proofs.Filling.{Filled, fill_begin, fill_next, fill_end}
+use Rattle.group.proofs.Filling.{Filled}
 use Rattle.group.proofs.entries.subscriptions_of.Given as goal
 
 abbrev pub invariant-loop-k : goal.invariant-loop-k

@@ -1,4 +1,4 @@
-use Rattle.std.proofs.Common.{◌≡◌, ℕ, ◌-◌, ◌≤◌, Bool, ◌||◌, length, drop, sym, ap, ◌∙◌, arith, rules}
+use Rattle.std.proofs.Common.{◌≡◌, Bool, ◌||◌, length, sym, ap, ◌∙◌, arith, rules}
 use Rattle.rules.specs.Basics.{any}
 use Rattle.rules.specs.Constants.{max_members}
 use Rattle.rules.specs.Group.{includes_topic}

@@ -1,10 +1,8 @@
 -- A topic is in what was gathered or in what is left exactly where some subscription has it. Assumes nothing.
-use Rattle.std.proofs.Common.{◌≡◌, ℕ, ◌-◌, ◌≤◌, Bool, ◌||◌, length, drop, sym, ap, ◌∙◌, arith, rules}
+use Rattle.std.proofs.Common.{◌≡◌, ℕ, ◌-◌, ◌≤◌, ◌||◌, drop}
 use Rattle.rules.specs.Basics.{any}
 use Rattle.rules.specs.Constants.{max_members}
 use Rattle.rules.specs.Group.{includes_topic}
-use Rattle.rules.proofs.Lists.{not_is_false, not_is_true}
-use Rattle.group.proofs.Installing.{none_subscribed, union_next, union_end}
 use Rattle.group.proofs.entries.wanted_topics.Given as goal
 
 abbrev pub invariant-loop-k : goal.invariant-loop-k

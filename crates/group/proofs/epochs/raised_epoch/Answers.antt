@@ -1,5 +1,5 @@
 -- By the test against the largest value. Assumes nothing.
-use Rattle.std.proofs.Common.{add-one, rules, le-ltb, lt-ltb}
+use Rattle.std.proofs.Common.{add-one, le-ltb, lt-ltb}
 use Rattle.rules.specs.Group.{raised}
 use Rattle.group.proofs.epochs.raised_epoch.Goals as goal
 

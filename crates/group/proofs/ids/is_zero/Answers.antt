@@ -1,6 +1,5 @@
-use Rattle.std.proofs.Common.{◌≡◌, ◌-◌, ◌≤◌, eqb, length, drop, sym, refl, ap, ◌∙◌, add-one, arith, drop_of_length-le, drop-cons, rules, eq-eqb, ne_eqb}
+use Rattle.std.proofs.Common.{◌≤◌, eqb, length, sym, refl, ap, ◌∙◌, add-one, arith, drop_of_length-le, drop-cons, rules, eq-eqb, ne_eqb}
 use Rattle.rules.specs.Basics.{all}
-use Rattle.rules.specs.Constants.{id_length}
 use Rattle.rules.specs.Refusals.{zero_id}
 use Rattle.group.proofs.ids.is_zero.Goals as goal
 

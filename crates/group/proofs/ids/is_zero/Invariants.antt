@@ -1,8 +1,7 @@
 -- The ID is zero as far as the loop went, so it is zero if what is left is. Assumes nothing.
-use Rattle.std.proofs.Common.{◌≡◌, ◌-◌, ◌≤◌, eqb, length, drop, sym, refl, ap, ◌∙◌, add-one, arith, drop_of_length-le, drop-cons, rules, eq-eqb, ne_eqb}
+use Rattle.std.proofs.Common.{◌≡◌, ◌-◌, ◌≤◌, eqb, drop}
 use Rattle.rules.specs.Basics.{all}
 use Rattle.rules.specs.Constants.{id_length}
-use Rattle.rules.specs.Refusals.{zero_id}
 use Rattle.group.proofs.ids.is_zero.Given as goal
 
 abbrev pub invariant-loop-i : goal.invariant-loop-i

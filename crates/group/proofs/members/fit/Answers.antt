@@ -1,5 +1,4 @@
 -- The slice says it where it is read.
-use Rattle.std.proofs.Common.{rules}
 use Rattle.group.proofs.members.fit.Goals as goal
 
 pub returns-then-words-gt0 : goal.returns-then-words-gt0

@@ -1,5 +1,5 @@
 -- By the test.
-use Rattle.std.proofs.Common.{refl, arith, rules}
+use Rattle.std.proofs.Common.{refl, arith}
 use Rattle.group.specs.Searches.{Ended}
 use Rattle.group.proofs.members.found.Goals as goal
 

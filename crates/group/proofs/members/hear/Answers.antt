@@ -1,5 +1,5 @@
 -- One entry is set, of the column of the ticks.
-use Rattle.std.proofs.Common.{arith, rules}
+use Rattle.std.proofs.Common.{arith}
 use Rattle.group.proofs.Columns.{heard_is, heard_past}
 use Rattle.group.proofs.members.hear.Goals as goal
 

@@ -1,5 +1,5 @@
 -- Entry by entry, in the order of the columns.
-use Rattle.std.proofs.Common.{arith, rules, le-ltb, lt-ltb}
+use Rattle.std.proofs.Common.{arith, le-ltb, lt-ltb}
 use Rattle.rules.specs.Constants.{max_members}
 use Rattle.group.specs.Columns.{put_at}
 use Rattle.group.proofs.members.put_cells.Goals as goal

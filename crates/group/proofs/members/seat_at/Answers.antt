@@ -1,5 +1,5 @@
 -- Column by column.
-use Rattle.std.proofs.Common.{◌%◌, not, arith, rules, le-ltb, lt-ltb}
+use Rattle.std.proofs.Common.{◌%◌, not, arith, le-ltb, lt-ltb}
 use Rattle.rules.specs.Constants.{max_members, subscription_count}
 use Rattle.search.specs.Places.{matches}
 use Rattle.group.specs.Columns.{cell, seat_at}

@@ -1,8 +1,7 @@
-use Rattle.std.proofs.Common.{◌-◌, ◌≤◌, get_or, sym, ap, ◌∙◌, arith}
+use Rattle.std.proofs.Common.{get_or, sym, ap, ◌∙◌, arith}
 use mathlib.Core.Option.{none}
-use Rattle.rules.specs.Constants.{max_members}
-use Rattle.rules.specs.Group.{includes_topic, subscribes}
-use Rattle.tables.proofs.Lists.{Open, open_begin, open_found, open_more, open_end}
+use Rattle.rules.specs.Group.{includes_topic}
+use Rattle.tables.proofs.Lists.{open_begin, open_found, open_more, open_end}
 use Rattle.group.specs.Columns.{view_members}
 use Rattle.group.proofs.Columns.{members_long}
 use Rattle.group.proofs.Installing.{subscribes_is}

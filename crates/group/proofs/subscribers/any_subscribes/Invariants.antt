@@ -1,12 +1,10 @@
 -- The search goes on while no place passed (`Open`), so the first that passes, or none, is what all members have. Assumes nothing.
-use Rattle.std.proofs.Common.{◌-◌, ◌≤◌, get_or, sym, ap, ◌∙◌, arith}
+use Rattle.std.proofs.Common.{◌-◌, ◌≤◌}
 use mathlib.Core.Option.{none}
 use Rattle.rules.specs.Constants.{max_members}
-use Rattle.rules.specs.Group.{includes_topic, subscribes}
-use Rattle.tables.proofs.Lists.{Open, open_begin, open_found, open_more, open_end}
+use Rattle.rules.specs.Group.{subscribes}
+use Rattle.tables.proofs.Lists.{Open}
 use Rattle.group.specs.Columns.{view_members}
-use Rattle.group.proofs.Columns.{members_long}
-use Rattle.group.proofs.Installing.{subscribes_is}
 use Rattle.group.proofs.subscribers.any_subscribes.Given as goal
 
 abbrev pub invariant-loop-k : goal.invariant-loop-k

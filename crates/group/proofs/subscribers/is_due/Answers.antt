@@ -1,5 +1,5 @@
 -- Past the last place there is nobody; at a place the two clocks are tried, and then whether somebody is there (`due_is`). Assumes nothing.
-use Rattle.std.proofs.Common.{not, leb, sym, ap, ◌∙◌, arith, rules, le-leb}
+use Rattle.std.proofs.Common.{not, leb, sym, ap, ◌∙◌, arith, le-leb}
 use borrow.Author.Tests.{lt-leb}
 use Rattle.rules.specs.Constants.{session_timeout}
 use Rattle.rules.specs.Effects.{due}

@@ -1,5 +1,5 @@
 -- A count of 0 is no topic, and allows any; otherwise the ID and then the count are compared. Assumes nothing.
-use Rattle.std.proofs.Common.{ℕ, leb, sym, ap, ◌∙◌, rules}
+use Rattle.std.proofs.Common.{ℕ, leb, sym, ap, ◌∙◌}
 use Rattle.rules.specs.Refusals.{allows}
 use Rattle.group.proofs.Numbering.{topic_at, free_number, own_number, not_own_number}
 use Rattle.group.proofs.topics.allows_count.Goals as goal

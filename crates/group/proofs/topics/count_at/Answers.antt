@@ -1,5 +1,5 @@
 -- Past the end of the array there is no count. Assumes nothing.
-use Rattle.std.proofs.Common.{◌≡◌, length, sym, refl, arith, rules}
+use Rattle.std.proofs.Common.{◌≡◌, length, sym, arith, rules}
 use lib.ListN.{get_or-eq_default}
 use Rattle.rules.specs.Constants.{topic_count}
 use Rattle.group.proofs.topics.count_at.Goals as goal

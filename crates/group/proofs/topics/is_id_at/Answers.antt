@@ -1,5 +1,4 @@
-use Rattle.std.proofs.Common.{◌≡◌, ◌-◌, ◌*◌, ◌≤◌, length, drop, sym, refl, ◌∙◌, arith, drop_of_length-le, rules, eq-eqb, ne_eqb}
-use Rattle.rules.specs.Basics.{same}
+use Rattle.std.proofs.Common.{◌≡◌, ◌*◌, length, sym, refl, ◌∙◌, arith, drop_of_length-le, rules, eq-eqb, ne_eqb}
 use Rattle.rules.specs.Constants.{topic_count, id_length}
 use Rattle.group.specs.Topics.{id_at}
 use Rattle.group.proofs.Bytes.{id_byte, id_long, same_next, past_id}

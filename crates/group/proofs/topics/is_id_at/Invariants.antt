@@ -1,9 +1,8 @@
 -- The bytes are the same as far as the loop went, so the IDs are the same if what is left is. Assumes nothing.
-use Rattle.std.proofs.Common.{◌≡◌, ◌-◌, ◌*◌, ◌≤◌, length, drop, sym, refl, ◌∙◌, arith, drop_of_length-le, rules, eq-eqb, ne_eqb}
+use Rattle.std.proofs.Common.{◌≡◌, ◌-◌, ◌≤◌, drop}
 use Rattle.rules.specs.Basics.{same}
-use Rattle.rules.specs.Constants.{topic_count, id_length}
+use Rattle.rules.specs.Constants.{id_length}
 use Rattle.group.specs.Topics.{id_at}
-use Rattle.group.proofs.Bytes.{id_byte, id_long, same_next, past_id}
 use Rattle.group.proofs.topics.is_id_at.Given as goal
 
 abbrev pub invariant-loop-i : goal.invariant-loop-i

@@ -1,9 +1,5 @@
-use Rattle.std.proofs.Common.{◌-◌, ◌≤◌, set, sym, ◌∙◌, arith}
-use mathlib.Core.Option.{none}
-use Rattle.rules.specs.Constants.{topic_count}
-use Rattle.rules.specs.Refusals.{has_id}
-use Rattle.tables.proofs.Lists.{Open, open_begin, open_found, open_more, open_end}
-use Rattle.group.specs.View.{view_topics}
+use Rattle.std.proofs.Common.{sym, ◌∙◌, arith}
+use Rattle.tables.proofs.Lists.{open_begin, open_found, open_more, open_end}
 use Rattle.group.proofs.Numbering.{others_long, own_out, other_in}
 use Rattle.group.proofs.topics.other_has_id.Goals as goal
 

@@ -1,11 +1,10 @@
 -- The topic of the number counts as none; the search goes on while no other passed (`Open`). Assumes nothing.
-use Rattle.std.proofs.Common.{◌-◌, ◌≤◌, set, sym, ◌∙◌, arith}
+use Rattle.std.proofs.Common.{◌-◌, ◌≤◌, set}
 use mathlib.Core.Option.{none}
 use Rattle.rules.specs.Constants.{topic_count}
 use Rattle.rules.specs.Refusals.{has_id}
-use Rattle.tables.proofs.Lists.{Open, open_begin, open_found, open_more, open_end}
+use Rattle.tables.proofs.Lists.{Open}
 use Rattle.group.specs.View.{view_topics}
-use Rattle.group.proofs.Numbering.{others_long, own_out, other_in}
 use Rattle.group.proofs.topics.other_has_id.Given as goal
 
 abbrev pub invariant-loop-i : goal.invariant-loop-i

@@ -1,6 +1,6 @@
-use Rattle.std.proofs.Common.{◌≡◌, ◌-◌, ◌*◌, ◌≤◌, length, refl, arith, rules}
+use Rattle.std.proofs.Common.{◌≡◌, ◌*◌, length, refl, arith, rules}
 use Rattle.rules.specs.Constants.{topic_count, id_length}
-use Rattle.group.proofs.Bytes.{Copying, copy_begin, copy_next, copy_end}
+use Rattle.group.proofs.Bytes.{copy_begin, copy_next, copy_end}
 use Rattle.group.proofs.topics.put_id.Goals as goal
 
 pub returns-then-n-ge-TOPICS : goal.returns-then-n-ge-TOPICS

@@ -1,7 +1,7 @@
 -- Byte by byte (`Copying`). Assumes nothing.
-use Rattle.std.proofs.Common.{◌≡◌, ◌-◌, ◌*◌, ◌≤◌, length, refl, arith, rules}
-use Rattle.rules.specs.Constants.{topic_count, id_length}
-use Rattle.group.proofs.Bytes.{Copying, copy_begin, copy_next, copy_end}
+use Rattle.std.proofs.Common.{◌-◌, ◌≤◌}
+use Rattle.rules.specs.Constants.{id_length}
+use Rattle.group.proofs.Bytes.{Copying}
 use Rattle.group.proofs.topics.put_id.Given as goal
 
 abbrev pub invariant-loop-i : goal.invariant-loop-i

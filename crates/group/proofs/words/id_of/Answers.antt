@@ -1,5 +1,5 @@
 -- Byte by byte, the lowest first.
-use Rattle.std.proofs.Common.{ℕ, [], ap, rules}
+use Rattle.std.proofs.Common.{ℕ, [], ap}
 use Rattle.search.specs.Places.{id_of, word_bytes}
 use Rattle.group.proofs.words.id_of.Goals as goal
 

@@ -1,5 +1,5 @@
 -- No sum is above a word, since each byte is below 256.
-use Rattle.std.proofs.Common.{arith, rules}
+use Rattle.std.proofs.Common.{arith}
 use Rattle.group.specs.Words.{word_at}
 use Rattle.group.proofs.words.word.Goals as goal
 

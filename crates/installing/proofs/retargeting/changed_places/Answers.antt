@@ -1,11 +1,10 @@
-use Prim.Native.Nat.{◌-◌, ◌≤◌}
 use native.Mathlib.Omega.{arith}
 use mathlib.Core.Path.{◌≡◌}
 use mathlib.Core.Bool.{false}
 use lib.ListN.{length, get_or-replicate}
 use borrow.Author.Rules.{rules}
 use Rattle.rules.specs.Constants.{max_members, slot_count}
-use Rattle.installing.proofs.Targets.{Marking, mark_begin, mark_skip, mark_both, mark_end}
+use Rattle.installing.proofs.Targets.{mark_begin, mark_skip, mark_both, mark_end}
 use Rattle.installing.proofs.retargeting.changed_places.Goals as goal
 
 pub loop-s-init : goal.loop-s-init

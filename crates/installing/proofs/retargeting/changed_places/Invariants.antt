@@ -1,12 +1,7 @@
 -- At each slot that was passed, a place that is not marked is in both targets or in neither; one that is marked was in one alone at some slot (`Marking`).
 use Prim.Native.Nat.{◌-◌, ◌≤◌}
-use native.Mathlib.Omega.{arith}
-use mathlib.Core.Path.{◌≡◌}
-use mathlib.Core.Bool.{false}
-use lib.ListN.{length, get_or-replicate}
-use borrow.Author.Rules.{rules}
-use Rattle.rules.specs.Constants.{max_members, slot_count}
-use Rattle.installing.proofs.Targets.{Marking, mark_begin, mark_skip, mark_both, mark_end}
+use Rattle.rules.specs.Constants.{slot_count}
+use Rattle.installing.proofs.Targets.{Marking}
 use Rattle.installing.proofs.retargeting.changed_places.Given as goal
 
 abbrev pub invariant-loop-s : goal.invariant-loop-s

@@ -1,11 +1,11 @@
-use Prim.Native.Nat.{ℕ, ◌-◌, ◌≤◌}
+use Prim.Native.Nat.{ℕ, ◌-◌}
 use native.Mathlib.Omega.{arith}
 use mathlib.Core.Path.{◌≡◌, refl}
 use lib.ListN.{length, get_or, length-replicate, get_or-replicate}
 use borrow.Author.Rules.{rules}
 use Rattle.rules.specs.Constants.{max_members, slot_count}
 use Rattle.slots.proofs.Selecting.{select_le}
-use Rattle.installing.specs.Links.{is_of, LinkedFrom}
+use Rattle.installing.specs.Links.{is_of}
 use Rattle.installing.proofs.Linking.{link_begin, link_none, link_some}
 use Rattle.installing.proofs.retargeting.link_slots.Goals as goal
 

@@ -1,13 +1,7 @@
 -- The slots that were passed are linked: those of a place to be the first of it, any other not at all.
-use Prim.Native.Nat.{ℕ, ◌-◌, ◌≤◌}
-use native.Mathlib.Omega.{arith}
-use mathlib.Core.Path.{◌≡◌, refl}
-use lib.ListN.{length, get_or, length-replicate, get_or-replicate}
-use borrow.Author.Rules.{rules}
-use Rattle.rules.specs.Constants.{max_members, slot_count}
-use Rattle.slots.proofs.Selecting.{select_le}
-use Rattle.installing.specs.Links.{is_of, LinkedFrom}
-use Rattle.installing.proofs.Linking.{link_begin, link_none, link_some}
+use Prim.Native.Nat.{◌≤◌}
+use Rattle.rules.specs.Constants.{slot_count}
+use Rattle.installing.specs.Links.{LinkedFrom}
 use Rattle.installing.proofs.retargeting.link_slots.Given as goal
 
 abbrev pub invariant-loop-s : goal.invariant-loop-s

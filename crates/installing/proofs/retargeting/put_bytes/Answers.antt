@@ -1,12 +1,11 @@
 use mathlib.Core.Path.{◌≡◌, ap, ◌∙◌}
-use mathlib.Core.List.{[], ◌∷◌, append-nil}
-use Prim.Native.Nat.{ℕ, ◌-◌, ◌≤◌}
+use mathlib.Core.List.{append-nil}
+use Prim.Native.Nat.{ℕ}
 use native.Mathlib.Omega.{arith}
 use native.Mathlib.Numerals.{add-one}
 use lib.ListN.{length, drop}
 use lib.Seq.{drop-cons, drop-length}
-use borrow.Author.Rules.{rules}
-use Rattle.numbers.proofs.Writing.{Writing, begin, same_len, put_one, ended}
+use Rattle.numbers.proofs.Writing.{begin, same_len, put_one, ended}
 use Rattle.installing.proofs.retargeting.put_bytes.Goals as goal
 
 pub loop-i-init : goal.loop-i-init

@@ -1,12 +1,10 @@
 use mathlib.Core.Path.{◌≡◌, refl, sym, ap, ◌∙◌, subst}
-use mathlib.Core.Bool.{true}
-use mathlib.Core.List.{List, [], ◌∷◌, append-nil}
-use Prim.Native.Nat.{ℕ, ◌+◌, ◌-◌, ◌≤◌, ◌<◌}
+use mathlib.Core.List.{[], ◌∷◌, append-nil}
+use Prim.Native.Nat.{ℕ, ◌+◌, ◌-◌}
 use native.Mathlib.Omega.{arith}
-use lib.ListN.{length, get_or}
-use borrow.Author.Rules.{rules}
+use lib.ListN.{get_or}
 use Rattle.rules.specs.Basics.{keep, up_to}
-use Rattle.rules.specs.Constants.{max_members, slot_count}
+use Rattle.rules.specs.Constants.{slot_count}
 use Rattle.rules.specs.Group.{set_m}
 use Rattle.rules.specs.Records.{number, differences}
 use Rattle.numbers.proofs.Writing.{Writing, begin, same_len, room_at, put_at_lem, ended}

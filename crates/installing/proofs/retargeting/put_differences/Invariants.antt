@@ -1,21 +1,16 @@
 -- The differences of the place's slots go to the front of the buffer, and those of the slots from `slot` on are to come, the first of them from `last`. `slot` is the
 -- place's, unless it is past the last slot; what lies between it and the next is stepped over. The loop doesn't know the place: it keeps this of each that begins there.
-use mathlib.Core.Path.{◌≡◌, refl, sym, ap, ◌∙◌, subst}
+use mathlib.Core.Path.{◌≡◌}
 use mathlib.Core.Bool.{true}
-use mathlib.Core.List.{List, [], ◌∷◌, append-nil}
-use Prim.Native.Nat.{ℕ, ◌+◌, ◌-◌, ◌≤◌, ◌<◌}
-use native.Mathlib.Omega.{arith}
+use mathlib.Core.List.{List, [], ◌∷◌}
+use Prim.Native.Nat.{ℕ, ◌-◌, ◌≤◌, ◌<◌}
 use lib.ListN.{length, get_or}
-use borrow.Author.Rules.{rules}
-use Rattle.rules.specs.Basics.{keep, up_to}
 use Rattle.rules.specs.Constants.{max_members, slot_count}
 use Rattle.rules.specs.Group.{set_m}
-use Rattle.rules.specs.Records.{number, differences}
-use Rattle.numbers.proofs.Writing.{Writing, begin, same_len, room_at, put_at_lem, ended}
-use Rattle.records.proofs.Differences.{run_next}
+use Rattle.rules.specs.Records.{differences}
+use Rattle.numbers.proofs.Writing.{Writing}
 use Rattle.installing.specs.Targets.{unheld}
-use Rattle.installing.specs.Links.{is_of, slots_from, NextOf}
-use Rattle.installing.proofs.Linking.{skip_to, set_from}
+use Rattle.installing.specs.Links.{is_of, slots_from}
 use Rattle.installing.proofs.retargeting.put_differences.Given as goal
 
 -- place p begins at `slot`, and there is room for it

@@ -4,7 +4,6 @@ use native.Mathlib.Omega.{arith}
 use mathlib.Core.Path.{refl, sym}
 use mathlib.Core.List.{List}
 use lib.ListN.{drop}
-use borrow.Author.Rules.{rules}
 use Rattle.rules.specs.Records.{all_bytes}
 use Rattle.numbers.proofs.Writing.{Writing, Stage, begin, first, next, to_go, in_range_lem, same_len, room, room₀, ended}
 use Rattle.installing.specs.Targets.{marked_install}

@@ -4,7 +4,6 @@ use mathlib.Core.List.{List, [], ◌∷◌}
 use Prim.Native.Nat.{ℕ}
 use native.Mathlib.Omega.{arith}
 use lib.ListN.{get_or}
-use borrow.Author.Rules.{rules}
 use Rattle.rules.specs.Constants.{slot_count}
 use Rattle.rules.specs.Group.{set_m}
 use Rattle.rules.specs.Records.{differences, bytes_of}

@@ -1,9 +1,7 @@
-use Prim.Native.Nat.{◌+◌, ◌-◌, ◌≤◌}
+use Prim.Native.Nat.{◌+◌}
 use native.Mathlib.Omega.{arith}
 use mathlib.Core.Path.{◌∙◌}
 use mathlib.Core.List.{[], ◌∷◌, append-nil}
-use borrow.Author.Rules.{rules}
-use Rattle.rules.specs.Constants.{max_members}
 use Rattle.rules.specs.Records.{all_bytes, bytes_of}
 use Rattle.numbers.proofs.Writing.{Writing, begin, cut, to_go₁, in_range_lem, same_len, room, put_at_lem, part_over, ended}
 use Rattle.installing.specs.Targets.{target_of, record_at, marked_records}

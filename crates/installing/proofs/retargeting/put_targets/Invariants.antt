@@ -1,15 +1,11 @@
 -- The records of the places that are left are to come (`Writing`); those of a marked place go to the part of the buffer where the last ended.
-use Prim.Native.Nat.{◌+◌, ◌-◌, ◌≤◌}
-use native.Mathlib.Omega.{arith}
-use mathlib.Core.Path.{◌∙◌}
-use mathlib.Core.List.{[], ◌∷◌, append-nil}
-use borrow.Author.Rules.{rules}
+use Prim.Native.Nat.{◌-◌, ◌≤◌}
+use mathlib.Core.List.{[], ◌∷◌}
 use Rattle.rules.specs.Constants.{max_members}
-use Rattle.rules.specs.Records.{all_bytes, bytes_of}
-use Rattle.numbers.proofs.Writing.{Writing, begin, cut, to_go₁, in_range_lem, same_len, room, put_at_lem, part_over, ended}
-use Rattle.installing.specs.Targets.{target_of, record_at, marked_records}
-use Rattle.events.proofs.Places.{places_from, places_end, bytes_at, bytes_end}
-use Rattle.installing.proofs.Installs.{marked_next, unmarked_next}
+use Rattle.rules.specs.Records.{all_bytes}
+use Rattle.numbers.proofs.Writing.{Writing}
+use Rattle.installing.specs.Targets.{record_at, marked_records}
+use Rattle.events.proofs.Places.{places_from, bytes_at}
 use Rattle.installing.proofs.retargeting.put_targets.Given as goal
 
 abbrev pub invariant-loop-i : goal.invariant-loop-i

@@ -5,7 +5,6 @@ use mathlib.Core.Path.{◌≡◌, subst}
 use mathlib.Core.Bool.{false, false≢true}
 use mathlib.Core.List.{List}
 use lib.ListN.{length}
-use borrow.Author.Rules.{rules}
 use Rattle.rules.specs.Records.{Record, all_bytes}
 use Rattle.rules.specs.Effects.{install_records}
 use Rattle.installing.specs.Targets.{unheld, marked_install, install_most, Stores}

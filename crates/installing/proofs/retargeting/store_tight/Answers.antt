@@ -4,7 +4,6 @@ use native.Mathlib.Omega.{arith}
 use mathlib.Core.Path.{refl, subst}
 use mathlib.Core.Bool.{true≢false, false≢true}
 use mathlib.Core.List.{List}
-use borrow.Author.Rules.{rules}
 use Rattle.numbers.specs.Buffer.{Wrote}
 use Rattle.installing.proofs.Installs.{wrote_part}
 use Rattle.installing.proofs.retargeting.store_tight.Goals as goal

@@ -1,7 +1,6 @@
 -- At each `return` the tests that led there say which heartbeat it is.
 use mathlib.Core.Path.{sym, subst, ◌∙◌}
 use borrow.Author.Tests.{not-true, not-false}
-use borrow.Author.Rules.{rules}
 use Rattle.rules.specs.Batches.{current_in}
 use Rattle.judging.specs.Asks.{Asks}
 use Rattle.judging.proofs.Beating.{beats_at, moves_at}

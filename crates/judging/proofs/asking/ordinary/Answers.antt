@@ -1,6 +1,5 @@
 -- The request is that of the rules if its numbers fit.
 use mathlib.Core.Path.{sym, ◌∙◌}
-use borrow.Author.Rules.{rules}
 use Rattle.judging.proofs.asking.ordinary.Goals as goal
 
 pub returns : goal.returns

@@ -1,7 +1,6 @@
 -- Past the last place nobody is, as at 255.
 use native.Mathlib.Omega.{arith}
 use mathlib.Core.Path.{sym, ap, ◌∙◌}
-use borrow.Author.Rules.{rules}
 use Rattle.group.specs.View.{view_seat}
 use Rattle.group.proofs.Columns.{seat_is, past_members}
 use Rattle.judging.proofs.asking.seat_of.Goals as goal

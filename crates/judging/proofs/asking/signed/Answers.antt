@@ -5,7 +5,6 @@ use mathlib.Core.Path.{◌≡◌, ap, ◌∙◌}
 use mir.Syntax.{w32}
 use mir.Facts.{to_z_pos}
 use mir.Val.{to_z}
-use borrow.Author.Rules.{rules}
 use Rattle.judging.proofs.Beating.{is_signed_lem}
 use Rattle.judging.proofs.asking.signed.Goals as goal
 

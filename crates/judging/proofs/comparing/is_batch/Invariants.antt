@@ -1,11 +1,7 @@
 -- The bytes before i are the same.
 use Prim.Native.Nat.{ℕ, ◌-◌, ◌≤◌, ◌<◌}
-use native.Mathlib.Omega.{arith}
 use mathlib.Core.Path.{◌≡◌}
 use lib.ListN.{get_or}
-use borrow.Author.Count.{below_more}
-use borrow.Author.Rules.{rules}
-use Rattle.judging.proofs.Bytes.{too_short, other_length, other_byte, all_same}
 use Rattle.judging.proofs.comparing.is_batch.Given as goal
 
 abbrev pub invariant-loop-i : goal.invariant-loop-i

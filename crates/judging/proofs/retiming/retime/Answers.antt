@@ -1,5 +1,4 @@
 -- The members' ticks, then the group's own.
-use borrow.Author.Rules.{rules}
 use Rattle.judging.proofs.Ticks.{group_ticked}
 use Rattle.judging.proofs.retiming.retime.Goals as goal
 

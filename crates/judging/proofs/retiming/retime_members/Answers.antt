@@ -1,10 +1,5 @@
-use Prim.Native.Nat.{◌-◌, ◌≤◌}
 use native.Mathlib.Omega.{arith}
-use mathlib.Core.Path.{◌≡◌}
-use lib.ListN.{length}
-use Rattle.rules.specs.Constants.{max_members}
-use Rattle.group.specs.Columns.{cell_count}
-use Rattle.judging.proofs.Ticks.{Ticked, none_ticked, one_ticked, all_ticked}
+use Rattle.judging.proofs.Ticks.{none_ticked, one_ticked, all_ticked}
 use Rattle.judging.proofs.retiming.retime_members.Goals as goal
 
 pub loop-p-init : goal.loop-p-init

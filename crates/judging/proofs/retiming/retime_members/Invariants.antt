@@ -1,11 +1,10 @@
 -- The places before p have the tick.
 use Prim.Native.Nat.{◌-◌, ◌≤◌}
-use native.Mathlib.Omega.{arith}
 use mathlib.Core.Path.{◌≡◌}
 use lib.ListN.{length}
 use Rattle.rules.specs.Constants.{max_members}
 use Rattle.group.specs.Columns.{cell_count}
-use Rattle.judging.proofs.Ticks.{Ticked, none_ticked, one_ticked, all_ticked}
+use Rattle.judging.proofs.Ticks.{Ticked}
 use Rattle.judging.proofs.retiming.retime_members.Given as goal
 
 abbrev pub invariant-loop-p : goal.invariant-loop-p

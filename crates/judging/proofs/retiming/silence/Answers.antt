@@ -1,13 +1,10 @@
-use Prim.Native.Nat.{ℕ, ◌-◌, ◌≤◌}
+use Prim.Native.Nat.{ℕ}
 use native.Mathlib.Omega.{arith}
-use mathlib.Core.Path.{◌≡◌, ap, ◌∙◌}
-use borrow.Author.Rules.{rules}
-use Rattle.rules.specs.Constants.{max_members, session_timeout}
-use Rattle.rules.specs.Group.{elapsed}
-use Rattle.rules.specs.Batches.{session_before, silent}
+use mathlib.Core.Path.{ap, ◌∙◌}
+use Rattle.rules.specs.Batches.{silent}
 use Rattle.group.specs.Columns.{view_members}
 use Rattle.group.proofs.Columns.{members_long}
-use Rattle.judging.proofs.Ticks.{Silenced, none_silenced, marked, unmarked, all_silenced}
+use Rattle.judging.proofs.Ticks.{none_silenced, marked, unmarked, all_silenced}
 use Rattle.judging.proofs.retiming.silence.Invariants.{since}
 use Rattle.judging.proofs.retiming.silence.Goals as goal
 

@@ -1,14 +1,11 @@
 -- The places before p that are gone are silent.
 use Prim.Native.Nat.{ℕ, ◌-◌, ◌≤◌}
-use native.Mathlib.Omega.{arith}
-use mathlib.Core.Path.{◌≡◌, ap, ◌∙◌}
-use borrow.Author.Rules.{rules}
+use mathlib.Core.Path.{◌≡◌}
 use Rattle.rules.specs.Constants.{max_members, session_timeout}
 use Rattle.rules.specs.Group.{elapsed}
-use Rattle.rules.specs.Batches.{session_before, silent}
+use Rattle.rules.specs.Batches.{session_before}
 use Rattle.group.specs.Columns.{view_members}
-use Rattle.group.proofs.Columns.{members_long}
-use Rattle.judging.proofs.Ticks.{Silenced, none_silenced, marked, unmarked, all_silenced}
+use Rattle.judging.proofs.Ticks.{Silenced}
 use Rattle.judging.proofs.retiming.silence.Given as goal
 
 -- the tick is the one that the rules have

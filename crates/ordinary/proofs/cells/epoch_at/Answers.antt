@@ -1,6 +1,5 @@
 -- The entry is the seat's. Assumes nothing.
 use mathlib.Core.Path.{sym, ap}
-use borrow.Author.Rules.{rules}
 use native.Mathlib.Omega.{arith}
 use Rattle.group.specs.declared.Seat.{Seat}
 use Rattle.ordinary.proofs.Numbers.{past, epoch_cell}

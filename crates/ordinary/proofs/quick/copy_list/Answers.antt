@@ -1,4 +1,4 @@
-use Prim.Native.Nat.{◌+◌, ◌-◌, ◌≤◌}
+use Prim.Native.Nat.{◌+◌, ◌≤◌}
 use native.Mathlib.Omega.{arith}
 use native.Mathlib.Numerals.{add-one}
 use mathlib.Core.Path.{◌∙◌}
@@ -9,7 +9,6 @@ use Rattle.rules.specs.Step.{overlay}
 use Rattle.numbers.proofs.Writing.{Writing, begin, to_go₁, same_len, put_one, ended}
 use Rattle.ordinary.proofs.quick.copy_list.Lts as lts
 use Rattle.ordinary.proofs.quick.copy_list.Reads as reads
-use Rattle.ordinary.proofs.quick.copy_list.Tie as tie
 use Rattle.ordinary.proofs.quick.copy_list.Goals as goal
 
 next : (c : (lts.In-loop reads.Pre reads.Post goal.the-invariant-loop-i goal.the-decreases-loop-i)) → let l = c.loop-i in let a = c.args in Writing a.from.now a.to.now l.to l.i ((get_or a.from.now l.i 0 ∷ drop (l.i + 1) a.from.now) ∷ [])

@@ -1,13 +1,8 @@
 -- The elements from i on are still to be written. Assumes nothing.
-use Prim.Native.Nat.{◌+◌, ◌-◌, ◌≤◌}
-use native.Mathlib.Omega.{arith}
-use native.Mathlib.Numerals.{add-one}
-use mathlib.Core.Path.{◌∙◌}
-use mathlib.Core.List.{[], ◌∷◌, append-nil}
-use lib.ListN.{length, drop, get_or, drop_of_length-le}
-use lib.Seq.{drop-cons}
-use Rattle.rules.specs.Step.{overlay}
-use Rattle.numbers.proofs.Writing.{Writing, begin, to_go₁, same_len, put_one, ended}
+use Prim.Native.Nat.{◌-◌, ◌≤◌}
+use mathlib.Core.List.{[], ◌∷◌}
+use lib.ListN.{length, drop}
+use Rattle.numbers.proofs.Writing.{Writing}
 use Rattle.ordinary.proofs.quick.copy_list.Given as goal
 
 abbrev pub invariant-loop-i : goal.invariant-loop-i

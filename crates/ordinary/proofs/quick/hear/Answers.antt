@@ -1,8 +1,6 @@
 -- Part by part. Assumes nothing.
 use mathlib.Core.Path.{refl, ap}
-use native.Mathlib.Omega.{arith}
 use Prim.Native.Nat.{ℕ}
-use borrow.Author.Rules.{rules}
 use Rattle.rules.specs.Constants.{heartbeat_interval}
 use Rattle.rules.specs.declared.Answer.TheVariants.{Assigned}
 use Rattle.events.specs.declared.Outcome.{Outcome}

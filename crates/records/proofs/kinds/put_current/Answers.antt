@@ -2,7 +2,6 @@
 use mathlib.Core.Path.{refl}
 use Prim.Native.Nat.{ℕ}
 use lib.ListN.{drop}
-use borrow.Author.Rules.{rules}
 use Rattle.rules.specs.Records.{bytes_of, current_is}
 use Rattle.numbers.proofs.Writing.{Stage, begun, first, next_at, same_len, room_at, room₀, ended}
 use Rattle.records.specs.Views.{view_current}

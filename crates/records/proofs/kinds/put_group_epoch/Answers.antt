@@ -1,5 +1,4 @@
 -- The record is numbers alone. Assumes nothing.
-use borrow.Author.Rules.{rules}
 use Rattle.records.proofs.Parts.{group_epoch_fields}
 use Rattle.records.proofs.kinds.put_group_epoch.Goals as goal
 

@@ -1,5 +1,4 @@
 -- The record is numbers alone. Assumes nothing.
-use borrow.Author.Rules.{rules}
 use Rattle.records.proofs.Parts.{member_gone_fields}
 use Rattle.records.proofs.kinds.put_member_gone.Goals as goal
 

@@ -3,7 +3,6 @@ use mathlib.Core.Path.{refl}
 use mathlib.Core.List.{List, [], ◌∷◌}
 use Prim.Native.Nat.{ℕ}
 use native.Mathlib.Omega.{arith}
-use borrow.Author.Rules.{rules}
 use Rattle.rules.specs.Records.{differences, bytes_of, target_is}
 use Rattle.numbers.proofs.Writing.{Writing, Stage, begin, first, next, to_go, in_range_lem, same_len, room, room₀, ended}
 use Rattle.slots.specs.Set.{slots_of}

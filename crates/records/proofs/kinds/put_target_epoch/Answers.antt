@@ -1,5 +1,4 @@
 -- The record is numbers alone. Assumes nothing.
-use borrow.Author.Rules.{rules}
 use Rattle.records.proofs.Parts.{target_epoch_fields}
 use Rattle.records.proofs.kinds.put_target_epoch.Goals as goal
 

@@ -1,5 +1,4 @@
 -- The front is numbers alone. Assumes nothing.
-use borrow.Author.Rules.{rules}
 use Rattle.records.specs.Fields.{target_front}
 use Rattle.records.proofs.kinds.put_target_front.Goals as goal
 

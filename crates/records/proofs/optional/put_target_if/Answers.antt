@@ -1,5 +1,4 @@
 -- If it is on, the bytes are the record's; if it is off, there are none. Assumes nothing.
-use borrow.Author.Rules.{rules}
 use Rattle.rules.specs.Records.{target_is}
 use Rattle.records.specs.Views.{view_target}
 use Rattle.records.proofs.Lists.{room_on, wrote_on, wrote_off}

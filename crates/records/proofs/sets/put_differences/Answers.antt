@@ -1,14 +1,12 @@
 use mathlib.Core.Path.{◌≡◌, refl, sym, ap, ◌∙◌}
-use mathlib.Core.Bool.{true}
 use mathlib.Core.List.{[], ◌∷◌, append-nil}
-use Prim.Native.Nat.{◌+◌, ◌-◌, ◌≤◌, ◌<◌}
+use Prim.Native.Nat.{◌+◌, ◌-◌}
 use native.Mathlib.Omega.{arith}
 use Rattle.rules.specs.Basics.{keep, up_to}
 use Rattle.rules.specs.Constants.{slot_count}
 use Rattle.rules.specs.Records.{number, differences}
 use Rattle.numbers.proofs.Writing.{Writing, begin, same_len, room_at, put_at_lem, ended}
 use Rattle.slots.specs.Set.{has, select, slots_of}
-use Rattle.slots.specs.Walk.{Left}
 use Rattle.slots.proofs.Selecting.{next_ahead, next_skips}
 use Rattle.records.proofs.Differences.{run_next}
 use Rattle.records.proofs.sets.put_differences.Goals.{At-loop-s, In-loop-s}

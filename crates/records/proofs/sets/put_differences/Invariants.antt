@@ -1,18 +1,14 @@
 -- The differences of the set go to the front of the buffer, and those of the slots from the step's on are to come, the first of them from `last`. The step's
 -- slot is in the set, unless it is past the last slot; what lies between it and the next is stepped over.
-use mathlib.Core.Path.{◌≡◌, refl, sym, ap, ◌∙◌}
+use mathlib.Core.Path.{◌≡◌}
 use mathlib.Core.Bool.{true}
-use mathlib.Core.List.{[], ◌∷◌, append-nil}
-use Prim.Native.Nat.{◌+◌, ◌-◌, ◌≤◌, ◌<◌}
-use native.Mathlib.Omega.{arith}
-use Rattle.rules.specs.Basics.{keep, up_to}
+use mathlib.Core.List.{[], ◌∷◌}
+use Prim.Native.Nat.{◌-◌, ◌≤◌, ◌<◌}
 use Rattle.rules.specs.Constants.{slot_count}
-use Rattle.rules.specs.Records.{number, differences}
-use Rattle.numbers.proofs.Writing.{Writing, begin, same_len, room_at, put_at_lem, ended}
+use Rattle.rules.specs.Records.{differences}
+use Rattle.numbers.proofs.Writing.{Writing}
 use Rattle.slots.specs.Set.{has, select, slots_of}
 use Rattle.slots.specs.Walk.{Left}
-use Rattle.slots.proofs.Selecting.{next_ahead, next_skips}
-use Rattle.records.proofs.Differences.{run_next}
 use Rattle.records.proofs.sets.put_differences.Given as goal
 
 abbrev pub invariant-loop-s : goal.invariant-loop-s

@@ -1,5 +1,4 @@
 -- `records::sets::put_set_at` meets its contract: `put_set` was lent the part of the buffer from the place on.
-use borrow.Author.Rules.{rules}
 use Rattle.numbers.proofs.Writing.{part_over}
 use Rattle.records.proofs.sets.put_set_at.Goals as goal
 

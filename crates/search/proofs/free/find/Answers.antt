@@ -1,13 +1,11 @@
 use mathlib.Core.Path.{◌≡◌}
-use Prim.Native.Nat.{ℕ, ◌-◌, ◌%◌, ◌≤◌}
 use native.Mathlib.Omega.{arith}
 use mir.Syntax.{w64}
 use mir.Val.{Fits}
 use lib.Count.{trailing_le}
 use borrow.Author.Rules.{rules}
 use Rattle.rules.specs.Constants.{max_members}
-use Rattle.search.specs.Places.{word_places, matches}
-use Rattle.search.proofs.Freeing.{None, none_free, lowest_free_lem}
+use Rattle.search.proofs.Freeing.{none_free, lowest_free_lem}
 use Rattle.search.proofs.free.find.Goals as goal
 
 pub loop-from-init : goal.loop-from-init

@@ -1,14 +1,9 @@
 -- No place of the words passed is free; the lowest one of the next word is the lowest free place (`lowest_free_lem`).
 use mathlib.Core.Path.{◌≡◌}
-use Prim.Native.Nat.{ℕ, ◌-◌, ◌%◌, ◌≤◌}
-use native.Mathlib.Omega.{arith}
-use mir.Syntax.{w64}
-use mir.Val.{Fits}
-use lib.Count.{trailing_le}
-use borrow.Author.Rules.{rules}
+use Prim.Native.Nat.{◌-◌, ◌%◌, ◌≤◌}
 use Rattle.rules.specs.Constants.{max_members}
 use Rattle.search.specs.Places.{word_places, matches}
-use Rattle.search.proofs.Freeing.{None, none_free, lowest_free_lem}
+use Rattle.search.proofs.Freeing.{None}
 use Rattle.search.proofs.free.find.Given as goal
 
 abbrev pub invariant-loop-from : goal.invariant-loop-from

@@ -1,12 +1,11 @@
 use mathlib.Core.Path.{◌≡◌, subst}
 use mathlib.Core.Bool.{◌&&◌, ◌||◌}
-use Prim.Native.Nat.{ℕ, ◌+◌, ◌-◌, ◌%◌, ◌≤◌}
+use Prim.Native.Nat.{ℕ, ◌%◌}
 use native.Mathlib.Omega.{arith}
 use lib.Dec.{eqb}
 use Rattle.slots.specs.Set.{bit}
 use Rattle.slots.proofs.Bits.{bit_zero}
-use Rattle.slots.proofs.Gathering.{Gather, gather_none, gather_more}
-use Rattle.search.specs.Places.{word_places, matches}
+use Rattle.slots.proofs.Gathering.{gather_none, gather_more}
 use Rattle.search.proofs.free.free_places.Goals as goal
 
 pub loop-i-init : goal.loop-i-init

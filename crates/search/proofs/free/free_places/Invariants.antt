@@ -1,12 +1,7 @@
 -- The word has the places passed, and no others yet (`Gather`).
-use mathlib.Core.Path.{◌≡◌, subst}
-use mathlib.Core.Bool.{◌&&◌, ◌||◌}
-use Prim.Native.Nat.{ℕ, ◌+◌, ◌-◌, ◌%◌, ◌≤◌}
-use native.Mathlib.Omega.{arith}
-use lib.Dec.{eqb}
+use Prim.Native.Nat.{◌+◌, ◌-◌, ◌≤◌}
 use Rattle.slots.specs.Set.{bit}
-use Rattle.slots.proofs.Bits.{bit_zero}
-use Rattle.slots.proofs.Gathering.{Gather, gather_none, gather_more}
+use Rattle.slots.proofs.Gathering.{Gather}
 use Rattle.search.specs.Places.{word_places, matches}
 use Rattle.search.proofs.free.free_places.Given as goal
 

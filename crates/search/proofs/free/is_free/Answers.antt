@@ -1,6 +1,5 @@
 -- The four tests are those of `matches`.
 use mathlib.Core.Path.{refl}
-use native.Mathlib.Omega.{arith}
 use Rattle.search.specs.Places.{matches}
 use Rattle.search.proofs.free.is_free.Goals as goal
 

@@ -1,8 +1,8 @@
-use Prim.Native.Nat.{ℕ, ◌+◌, ◌-◌, ◌≤◌}
+use Prim.Native.Nat.{ℕ, ◌+◌, ◌-◌}
 use native.Mathlib.Omega.{arith}
 use mathlib.Core.Path.{◌≡◌, subst}
 use lib.ListN.{length}
-use Rattle.search.specs.Rising.{stride, Rises, TellsRising}
+use Rattle.search.specs.Rising.{stride, TellsRising}
 use Rattle.search.proofs.SlotSets.{joined, no_more}
 use Rattle.search.proofs.rising.rises.Goals as goal
 

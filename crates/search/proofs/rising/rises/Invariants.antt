@@ -1,10 +1,6 @@
 -- The strides passed rise; the last one ends with the list.
-use Prim.Native.Nat.{ℕ, ◌+◌, ◌-◌, ◌≤◌}
-use native.Mathlib.Omega.{arith}
-use mathlib.Core.Path.{◌≡◌, subst}
-use lib.ListN.{length}
-use Rattle.search.specs.Rising.{stride, Rises, TellsRising}
-use Rattle.search.proofs.SlotSets.{joined, no_more}
+use Prim.Native.Nat.{◌-◌, ◌≤◌}
+use Rattle.search.specs.Rising.{Rises}
 use Rattle.search.proofs.rising.rises.Given as goal
 
 abbrev pub invariant-loop-from : goal.invariant-loop-from

@@ -1,8 +1,5 @@
-use Prim.Native.Nat.{◌-◌, ◌≤◌}
 use native.Mathlib.Omega.{arith}
 use mathlib.Core.Bool.{true≢false}
-use lib.ListN.{length}
-use Rattle.search.specs.Rising.{Rises}
 use Rattle.search.proofs.SlotSets.{rises_at, no_more, falls_at}
 use Rattle.search.proofs.rising.rises_by_one.Goals as goal
 

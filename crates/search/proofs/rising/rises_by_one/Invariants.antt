@@ -1,10 +1,7 @@
 -- The entries passed rise.
 use Prim.Native.Nat.{◌-◌, ◌≤◌}
-use native.Mathlib.Omega.{arith}
-use mathlib.Core.Bool.{true≢false}
 use lib.ListN.{length}
 use Rattle.search.specs.Rising.{Rises}
-use Rattle.search.proofs.SlotSets.{rises_at, no_more, falls_at}
 use Rattle.search.proofs.rising.rises_by_one.Given as goal
 
 abbrev pub invariant-loop-i : goal.invariant-loop-i

@@ -1,9 +1,6 @@
 -- What the entries passed tell is kept (`TellsRising`).
-use Prim.Native.Nat.{ℕ, ◌+◌, ◌-◌, ◌≤◌}
-use mathlib.Core.Path.{◌≡◌, subst}
-use native.Mathlib.Omega.{arith}
+use Prim.Native.Nat.{◌+◌, ◌-◌, ◌≤◌}
 use Rattle.search.specs.Rising.{stride, TellsRising}
-use Rattle.search.proofs.SlotSets.{none_yet, tells_more}
 use Rattle.search.proofs.rising.rises_from.Given as goal
 
 abbrev pub invariant-loop-i : goal.invariant-loop-i

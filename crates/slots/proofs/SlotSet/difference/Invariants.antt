@@ -1,16 +1,8 @@
 -- Each word of the result is the word without the bits of the other, whence the slots are those that the other has not (`wordwise`).
-use mathlib.Core.Path.{◌≡◌, refl}
-use mathlib.Core.Bool.{not, ◌&&◌}
 use Prim.Native.Nat.{◌-◌, ◌^◌, ◌≤◌}
-use native.Mathlib.Omega.{arith}
-use lib.ListN.{length, get_or}
+use lib.ListN.{get_or}
 use lib.Bits.{bit_and}
-use mir.Syntax.{w64}
-use mir.Val.{Fits}
-use Rattle.slots.proofs.Bits.{bit_without}
-use Rattle.slots.proofs.Each.{Each, each_none, each_more}
-use Rattle.slots.proofs.Words.{wordwise}
-use borrow.Author.Rules.{rules}
+use Rattle.slots.proofs.Each.{Each}
 use Rattle.slots.specs.Set.{word_count}
 use Rattle.slots.proofs.SlotSet.difference.Given as goal
 

@@ -1,14 +1,12 @@
-use mathlib.Core.Path.{◌≡◌, sym, ap, ◌∙◌, subst}
-use mathlib.Core.Bool.{false}
-use Prim.Native.Nat.{ℕ, ◌+◌, ◌-◌, ◌*◌, ◌/◌, ◌^◌, ◌≤◌, ◌<◌}
+use mathlib.Core.Path.{◌≡◌, sym, ap, ◌∙◌}
+use Prim.Native.Nat.{ℕ, ◌+◌, ◌*◌, ◌/◌, ◌^◌}
 use native.Mathlib.Omega.{arith}
 use mir.Syntax.{w64}
 use mir.Val.{Fits}
 use lib.ListN.{get_or}
 use lib.Count.{count_trailing_zeros}
 use borrow.Author.Rules.{rules}
-use Rattle.rules.specs.Constants.{slot_count}
-use Rattle.slots.specs.Set.{has, word_count}
+use Rattle.slots.specs.Set.{has}
 use Rattle.slots.proofs.Next.{none_join, word_none}
 use Rattle.slots.proofs.Steps.{from_slot, from_start, step_within, steps_join, steps_end}
 use Rattle.slots.proofs.SlotSet.step_from.Goals as goal

@@ -1,17 +1,8 @@
 -- The words passed are zero; of the next that is not, the lowest bit is the slot.
-use mathlib.Core.Path.{◌≡◌, sym, ap, ◌∙◌, subst}
+use mathlib.Core.Path.{◌≡◌}
 use mathlib.Core.Bool.{false}
-use Prim.Native.Nat.{ℕ, ◌+◌, ◌-◌, ◌*◌, ◌/◌, ◌^◌, ◌≤◌, ◌<◌}
-use native.Mathlib.Omega.{arith}
-use mir.Syntax.{w64}
-use mir.Val.{Fits}
-use lib.ListN.{get_or}
-use lib.Count.{count_trailing_zeros}
-use borrow.Author.Rules.{rules}
-use Rattle.rules.specs.Constants.{slot_count}
+use Prim.Native.Nat.{ℕ, ◌-◌, ◌*◌, ◌≤◌, ◌<◌}
 use Rattle.slots.specs.Set.{has, word_count}
-use Rattle.slots.proofs.Next.{none_join, word_none}
-use Rattle.slots.proofs.Steps.{from_slot, from_start, step_within, steps_join, steps_end}
 use Rattle.slots.proofs.SlotSet.step_from.Given as goal
 
 abbrev pub invariant-loop-k : goal.invariant-loop-k

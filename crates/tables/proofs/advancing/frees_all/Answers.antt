@@ -1,7 +1,6 @@
 -- By the tests, in their order.
 use mathlib.Core.Path.{sym, ap, ◌∙◌}
 use mathlib.Core.Bool.{not}
-use borrow.Author.Rules.{rules}
 use Rattle.tables.proofs.advancing.frees_all.Goals as goal
 
 pub returns-then-given : goal.returns-then-given

@@ -1,9 +1,6 @@
 use native.Mathlib.Omega.{arith}
-use Prim.Native.Nat.{◌-◌}
 use mathlib.Core.Path.{sym, ◌∙◌}
-use lib.ListN.{length}
-use Rattle.slots.specs.Set.{has}
-use Rattle.tables.proofs.Lists.{Open, open_begin, open_found, open_more, open_end}
+use Rattle.tables.proofs.Lists.{open_begin, open_found, open_more, open_end}
 use Rattle.tables.proofs.advancing.meets.Goals as goal
 
 pub loop-i-init : goal.loop-i-init

@@ -1,10 +1,8 @@
 -- What is left of the list decides (`Open`).
-use native.Mathlib.Omega.{arith}
 use Prim.Native.Nat.{◌-◌}
-use mathlib.Core.Path.{sym, ◌∙◌}
 use lib.ListN.{length}
 use Rattle.slots.specs.Set.{has}
-use Rattle.tables.proofs.Lists.{Open, open_begin, open_found, open_more, open_end}
+use Rattle.tables.proofs.Lists.{Open}
 use Rattle.tables.proofs.advancing.meets.Given as goal
 
 abbrev pub invariant-loop-i : goal.invariant-loop-i

@@ -1,15 +1,14 @@
 use mathlib.Core.Path.{◌≡◌, refl, sym, ap, ◌∙◌}
 use mathlib.Core.List.{List}
-use Prim.Native.Nat.{◌-◌, ◌≤◌}
 use native.Mathlib.Omega.{arith}
 use lib.ListN.{length, length-set, set}
 use Rattle.rules.specs.Constants.{slot_count}
 use Rattle.rules.specs.Group.{SlotState, free_slot}
 use Rattle.rules.specs.Effects.{vacated}
-use Rattle.tables.specs.View.{view_lists, Sizes}
+use Rattle.tables.specs.View.{view_lists}
 use Rattle.tables.specs.Changes.{view_entry}
 use Rattle.tables.proofs.Viewing.{view_slots, view_slot, view_set}
-use Rattle.tables.proofs.Replacing.{part, part_all, part_more}
+use Rattle.tables.proofs.Replacing.{part_all, part_more}
 use Rattle.tables.proofs.changing.vacate.Goals.{After-sized, Start}
 use Rattle.tables.proofs.changing.vacate.Goals as goal
 

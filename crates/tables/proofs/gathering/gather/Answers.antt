@@ -1,10 +1,8 @@
 use Rattle.rules.specs.Constants.{slot_count}
 use native.Mathlib.Omega.{arith}
-use Prim.Native.Nat.{◌-◌, ◌≤◌}
 use mathlib.Core.Path.{◌≡◌, refl}
-use lib.ListN.{length, length-set}
-use Rattle.tables.proofs.Filling.{Four, four_none, four_more, four_all, none_yet}
-use Rattle.slots.specs.Set.{word_count}
+use lib.ListN.{length-set}
+use Rattle.tables.proofs.Filling.{four_none, four_more, four_all, none_yet}
 use Rattle.tables.proofs.gathering.gather.Goals as goal
 
 pub loop-s-init : goal.loop-s-init

@@ -1,10 +1,9 @@
 -- The four sets are filled below s, and those from one near slot to the next are stepped over.
 use Rattle.rules.specs.Constants.{slot_count}
-use native.Mathlib.Omega.{arith}
 use Prim.Native.Nat.{◌-◌, ◌≤◌}
-use mathlib.Core.Path.{◌≡◌, refl}
-use lib.ListN.{length, length-set}
-use Rattle.tables.proofs.Filling.{Four, four_none, four_more, four_all, none_yet}
+use mathlib.Core.Path.{◌≡◌}
+use lib.ListN.{length}
+use Rattle.tables.proofs.Filling.{Four}
 use Rattle.slots.specs.Set.{word_count}
 use Rattle.tables.proofs.gathering.gather.Given as goal
 

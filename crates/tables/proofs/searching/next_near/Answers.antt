@@ -1,8 +1,6 @@
-use Rattle.rules.specs.Constants.{slot_count}
 use native.Mathlib.Omega.{arith}
-use Prim.Native.Nat.{◌-◌, ◌≤◌}
 use lib.ListN.{get_or}
-use Rattle.tables.specs.Places.{near, NoneNear}
+use Rattle.tables.specs.Places.{near}
 use Rattle.tables.proofs.Nearness.{none_more, mark_none, mark_some}
 use Rattle.tables.proofs.searching.next_near.Goals as goal
 

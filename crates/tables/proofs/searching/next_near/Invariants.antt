@@ -1,10 +1,7 @@
 -- None of the slots passed is near p, by eights and then one at a time.
 use Rattle.rules.specs.Constants.{slot_count}
-use native.Mathlib.Omega.{arith}
 use Prim.Native.Nat.{◌-◌, ◌≤◌}
-use lib.ListN.{get_or}
-use Rattle.tables.specs.Places.{near, NoneNear}
-use Rattle.tables.proofs.Nearness.{none_more, mark_none, mark_some}
+use Rattle.tables.specs.Places.{NoneNear}
 use Rattle.tables.proofs.searching.next_near.Given as goal
 
 abbrev pub invariant-loop-i : goal.invariant-loop-i

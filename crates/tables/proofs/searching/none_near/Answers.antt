@@ -1,9 +1,8 @@
 use borrow.Author.Tests.{eqb-true}
 use native.Mathlib.Omega.{arith}
-use Prim.Native.Nat.{◌+◌, ◌-◌, ◌≤◌}
-use mathlib.Core.Path.{◌≡◌}
+use Prim.Native.Nat.{◌+◌}
 use lib.ListN.{get_or}
-use Rattle.tables.specs.Places.{near, NoneNear}
+use Rattle.tables.specs.Places.{near}
 use Rattle.tables.proofs.Nearness.{none_more, mark_none, or_nothing}
 use Rattle.tables.proofs.searching.none_near.Goals as goal
 

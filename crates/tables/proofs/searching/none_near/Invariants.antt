@@ -1,11 +1,7 @@
 -- Where the marks are all 0, none of the slots passed is near p.
-use borrow.Author.Tests.{eqb-true}
-use native.Mathlib.Omega.{arith}
 use Prim.Native.Nat.{◌+◌, ◌-◌, ◌≤◌}
 use mathlib.Core.Path.{◌≡◌}
-use lib.ListN.{get_or}
-use Rattle.tables.specs.Places.{near, NoneNear}
-use Rattle.tables.proofs.Nearness.{none_more, mark_none, or_nothing}
+use Rattle.tables.specs.Places.{NoneNear}
 use Rattle.tables.proofs.searching.none_near.Given as goal
 
 abbrev pub invariant-loop-i : goal.invariant-loop-i

@@ -1,8 +1,7 @@
-use Rattle.rules.specs.Constants.{slot_count}
 use native.Mathlib.Omega.{arith}
-use Prim.Native.Nat.{◌+◌, ◌-◌, ◌≤◌}
+use Prim.Native.Nat.{◌+◌}
 use lib.ListN.{get_or}
-use Rattle.tables.specs.Places.{near, NoneNear}
+use Rattle.tables.specs.Places.{near}
 use Rattle.slots.proofs.Next.{none_join}
 use Rattle.tables.proofs.searching.skip_far.Goals as goal
 

@@ -1,10 +1,7 @@
 -- None of the slots passed is near p, eight at a time.
 use Rattle.rules.specs.Constants.{slot_count}
-use native.Mathlib.Omega.{arith}
-use Prim.Native.Nat.{◌+◌, ◌-◌, ◌≤◌}
-use lib.ListN.{get_or}
-use Rattle.tables.specs.Places.{near, NoneNear}
-use Rattle.slots.proofs.Next.{none_join}
+use Prim.Native.Nat.{◌-◌, ◌≤◌}
+use Rattle.tables.specs.Places.{NoneNear}
 use Rattle.tables.proofs.searching.skip_far.Given as goal
 
 abbrev pub invariant-loop-i : goal.invariant-loop-i

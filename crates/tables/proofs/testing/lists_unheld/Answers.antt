@@ -1,9 +1,7 @@
-use Prim.Native.Nat.{◌-◌}
 use native.Mathlib.Omega.{arith}
-use lib.ListN.{length}
 use borrow.Author.Tests.{eq-eqb, ne_eqb}
-use Rattle.tables.proofs.Lists.{Open, open_begin, open_found, open_more, open_end}
-use Rattle.tables.proofs.Telling.{unheld, tells_unheld}
+use Rattle.tables.proofs.Lists.{open_begin, open_found, open_more, open_end}
+use Rattle.tables.proofs.Telling.{tells_unheld}
 use Rattle.tables.proofs.testing.lists_unheld.Goals as goal
 
 pub loop-i-init : goal.loop-i-init

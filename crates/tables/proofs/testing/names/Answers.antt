@@ -1,12 +1,10 @@
-use mathlib.Core.Path.{◌≡◌, refl, ap, ◌∙◌}
-use mathlib.Core.Bool.{Bool}
-use Prim.Native.Nat.{◌-◌, ◌≤◌}
+use mathlib.Core.Path.{◌≡◌, refl}
 use native.Mathlib.Omega.{arith}
 use lib.ListN.{length}
 use borrow.Author.Rules.{rules}
 use Rattle.rules.specs.Constants.{slot_count}
 use Rattle.tables.specs.Places.{is_place}
-use Rattle.tables.proofs.Lists.{Seen, seen_more, seen_all}
+use Rattle.tables.proofs.Lists.{seen_more, seen_all}
 use Rattle.tables.proofs.testing.names.Goals.{After-all-1}
 use Rattle.tables.proofs.testing.names.Goals as goal
 

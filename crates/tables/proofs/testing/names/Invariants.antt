@@ -1,13 +1,8 @@
 -- What was found, or what is left, decides (`Seen`).
-use mathlib.Core.Path.{◌≡◌, refl, ap, ◌∙◌}
-use mathlib.Core.Bool.{Bool}
 use Prim.Native.Nat.{◌-◌, ◌≤◌}
-use native.Mathlib.Omega.{arith}
-use lib.ListN.{length}
-use borrow.Author.Rules.{rules}
 use Rattle.rules.specs.Constants.{slot_count}
 use Rattle.tables.specs.Places.{is_place}
-use Rattle.tables.proofs.Lists.{Seen, seen_more, seen_all}
+use Rattle.tables.proofs.Lists.{Seen}
 use Rattle.tables.proofs.testing.names.Given as goal
 
 abbrev pub invariant-loop-i : goal.invariant-loop-i
