@@ -1,7 +1,7 @@
 /*
  * Pankvisolo: the proved consumer-group coordinator, for hosts in C or C++ on x86-64 Linux.
  *
- * `rt staticlib pankvisolo` writes the archive to link: target/staticlib/libpankvisolo.a. Of the C
+ * `tools/archive` writes the archive to link: target/staticlib/libpankvisolo.a. Of the C
  * library it needs memcpy and memset, and nothing else; it allocates nothing and has no state
  * of its own.
  *

@@ -1,19 +1,20 @@
-//! Links the archive of the proved functions. `rt staticlib pankvisolo` writes it below the
-//! repository's target/; where it is missing, or older than a file that it is made of, that command
-//! is run here first. From nothing it proves every crate below `pankvisolo`, which takes minutes.
+//! Links the archive of the proved functions. `tools/archive` makes it of the static library
+//! `pankvisolo_c` and writes it below the repository's target/; where it is missing, or older than a
+//! file that it is made of, that command is run here first. From nothing it proves every crate below
+//! `pankvisolo_c`, which takes minutes.
 //!
-//! A copy of the archive is what is linked, since `rt ci` removes target/ and cargo must not miss it.
+//! A copy of the archive is what is linked, so that cargo doesn't miss it where target/ is removed.
 
 use std::collections::BTreeSet;
 use std::env;
-use std::fs::{self, File};
+use std::fs;
 use std::io;
 use std::path::{Path, PathBuf};
 use std::process::{Command, ExitCode, Stdio};
 use std::time::SystemTime;
 
-const CRATE: &str = "pankvisolo";
-const COMMAND: &str = "`rt staticlib pankvisolo`";
+const CRATE: &str = "pankvisolo_c";
+const COMMAND: &str = "tools/archive";
 
 fn main() -> ExitCode {
     match link() {
@@ -53,7 +54,7 @@ fn link() -> Result<(), String> {
     Ok(())
 }
 
-/// crates.txt, and what `pankvisolo` and all that it depends on in this repository are made of.
+/// crates.txt, and what `pankvisolo_c` and all that it depends on in this repository are made of.
 fn sources(root: &Path) -> Result<Vec<PathBuf>, String> {
     let list = root.join("crates.txt");
     let text = fs::read_to_string(&list).map_err(about(&list))?;
@@ -74,12 +75,12 @@ fn sources(root: &Path) -> Result<Vec<PathBuf>, String> {
     Ok([list].into_iter().chain(there).collect())
 }
 
-/// What the crate's line, `NAME: DEP DEP ..`, says after the colon.
+/// What the crate's line, `NAME: DEP DEP ..` or `NAME staticlib: DEP DEP ..`, says after the colon.
 fn line_of<'a>(crates: &'a str, name: &str) -> Option<&'a str> {
     let lines = crates
         .lines()
         .filter_map(|line| line.split('#').next()?.split_once(':'));
-    let mut of_name = lines.filter(|(of, _)| of.trim() == name);
+    let mut of_name = lines.filter(|(of, _)| of.split_whitespace().next() == Some(name));
     of_name.next().map(|(_, depends_on)| depends_on)
 }
 
@@ -115,19 +116,11 @@ fn changed(path: &Path) -> Result<SystemTime, String> {
 }
 
 fn prove(root: &Path, archive: &Path) -> Result<(), String> {
-    let begun = SystemTime::now();
-    let output = Command::new("rt")
-        .args(["staticlib", CRATE])
+    let output = Command::new(root.join(COMMAND))
         .current_dir(root)
         .stdin(Stdio::null())
         .output()
-        .map_err(|error| match error.kind() {
-            io::ErrorKind::NotFound => format!(
-                "{COMMAND} makes the archive of the proved functions, and there is no `rt` on the \
-                 PATH: install the Rattle kit, or put its folder bin/ on the PATH"
-            ),
-            _ => format!("{COMMAND} cannot be started: {error}"),
-        })?;
+        .map_err(|error| format!("{COMMAND} cannot be started: {error}"))?;
     if !output.status.success() {
         let [said, complained] = [&output.stdout, &output.stderr];
         return Err(format!(
@@ -143,10 +136,7 @@ fn prove(root: &Path, archive: &Path) -> Result<(), String> {
         let archive = archive.display();
         return Err(format!("{COMMAND} ended well and left no {archive}"));
     }
-    // So a file that was edited meanwhile counts as newer.
-    let made = File::options().append(true).open(archive);
-    made.and_then(|file| file.set_modified(begun))
-        .map_err(about(archive))
+    Ok(())
 }
 
 fn variable(name: &str) -> Result<String, String> {

@@ -10,6 +10,8 @@
 use events::{Outcome, Request};
 use group::{CELLS, EPOCH, TARGET_EPOCH, TOPIC_BYTES};
 use rules::{Answer, NO_PLACE, SLOTS, TOPICS};
+use std::io;
+use std::io::{Read, Write};
 
 const COLUMNS: usize = 7;
 
@@ -21,80 +23,86 @@ struct Row {
     has_name: bool,
 }
 
-fn text(s: &[u8]) {
-    io::write_all(1, s);
+fn field<W: Write>(out: &mut W, s: &[u8], n: u32) -> io::Result<()> {
+    out.write_all(s)?;
+    write!(out, "{n}")
 }
 
-fn field(s: &[u8], n: u32) {
-    text(s);
-    io::print_decimal(1, n as u64);
+fn byte<W: Write>(out: &mut W, b: u8) -> io::Result<()> {
+    write!(out, " {b:02x}")
 }
 
-fn byte(b: u8) {
-    text(b" ");
-    io::print_hex(1, b as u64, 2);
-}
-
-fn slot(s: u16) {
-    field(b" ", s as u32);
+fn slot<W: Write>(out: &mut W, s: u16) -> io::Result<()> {
+    field(out, b" ", s as u32)
 }
 
 // The first `count` bytes, each as two digits with a space before it.
-fn bytes(records: &[u8], count: usize) {
+fn bytes<W: Write>(out: &mut W, records: &[u8], count: usize) -> io::Result<()> {
     let mut i: usize = 0;
     while i < count {
         if i < records.len() {
-            byte(records[i]);
+            byte(out, records[i])?;
         }
         i += 1;
     }
+    Ok(())
 }
 
 // The first `count` slots, each with a space before it.
-fn slots(list: &[u16], count: u32) {
+fn slots<W: Write>(out: &mut W, list: &[u16], count: u32) -> io::Result<()> {
     let mut i: usize = 0;
     while i < count as usize {
         if i < list.len() {
-            slot(list[i]);
+            slot(out, list[i])?;
         }
         i += 1;
     }
+    Ok(())
 }
 
-fn refusal(number: u32, slot: u16) {
-    field(b"refused ", number);
+fn refusal<W: Write>(out: &mut W, number: u32, slot: u16) -> io::Result<()> {
+    field(out, b"refused ", number)?;
     if slot != rules::NO_SLOT {
-        field(b" at slot ", slot as u32);
+        field(out, b" at slot ", slot as u32)?;
     }
+    Ok(())
 }
 
-fn answer(a: Answer, list: &[u16]) {
+fn answer<W: Write>(out: &mut W, a: Answer, list: &[u16]) -> io::Result<()> {
     match a {
         Answer::Assigned(x) => {
-            field(b"epoch ", x.epoch);
-            field(b", interval ", x.interval);
-            text(b", slots");
-            slots(list, x.count);
+            field(out, b"epoch ", x.epoch)?;
+            field(out, b", interval ", x.interval)?;
+            out.write_all(b", slots")?;
+            slots(out, list, x.count)
         }
-        Answer::Left => text(b"epoch -1"),
-        Answer::Swept(n) => field(b"removed ", n),
-        Answer::Done => text(b"accepted"),
+        Answer::Left => out.write_all(b"epoch -1"),
+        Answer::Swept(n) => field(out, b"removed ", n),
+        Answer::Done => out.write_all(b"accepted"),
         Answer::Refused(_) => {
             let said = events::what_is_said(a);
-            refusal(said.number, said.slot);
+            refusal(out, said.number, said.slot)
         }
     }
 }
 
 // What follows the name.
-fn show(a: Answer, list: &[u16], records: &[u8], written: usize, epoch: u32, target_epoch: u32) {
-    text(b": ");
-    answer(a, list);
-    text(b"; bytes");
-    bytes(records, written);
-    field(b"; G ", epoch);
-    field(b", T ", target_epoch);
-    text(b"\n");
+fn show<W: Write>(
+    out: &mut W,
+    a: Answer,
+    list: &[u16],
+    records: &[u8],
+    written: usize,
+    epoch: u32,
+    target_epoch: u32,
+) -> io::Result<()> {
+    out.write_all(b": ")?;
+    answer(out, a, list)?;
+    out.write_all(b"; bytes")?;
+    bytes(out, records, written)?;
+    field(out, b"; G ", epoch)?;
+    field(out, b", T ", target_epoch)?;
+    out.write_all(b"\n")
 }
 
 fn empty_row() -> Row {
@@ -112,17 +120,17 @@ fn longer(n: u32, digit: u8) -> u32 {
 }
 
 // The row with the next byte of its text. A name is written as it comes.
-fn read(r: Row, b: u8) -> Row {
+fn read<W: Write>(out: &mut W, r: Row, b: u8) -> io::Result<Row> {
     let mut row = r;
     let k = row.column;
     if k == COLUMNS {
-        text(&[b]);
+        out.write_all(&[b])?;
         row.has_name = true;
-        return row;
+        return Ok(row);
     }
     if b == b'|' {
         row.column = k % COLUMNS + 1;
-        return row;
+        return Ok(row);
     }
     if row.event == 0 {
         row.event = b;
@@ -130,7 +138,7 @@ fn read(r: Row, b: u8) -> Row {
     if k < COLUMNS {
         row.numbers[k] = longer(row.numbers[k], b);
     }
-    row
+    Ok(row)
 }
 
 fn id(n: u32) -> [u8; 16] {
@@ -260,7 +268,8 @@ fn serve<'a>(
     }
 }
 
-fn run<'a>(
+fn run<'a, W: Write>(
+    out: &mut W,
     head: &'a mut [u32; 3],
     members: &'a mut [u32; CELLS],
     topic_ids: &'a mut [u8; TOPIC_BYTES],
@@ -271,7 +280,7 @@ fn run<'a>(
     row: Row,
     records: &mut [u8],
     list: &mut [u16],
-) {
+) -> io::Result<()> {
     let n = row.numbers;
     if row.event == b'f' {
         renew(
@@ -284,11 +293,11 @@ fn run<'a>(
             waiting,
             n[3],
         );
-        return;
+        return Ok(());
     }
     let room = n[6] as usize;
     if records.len() < room {
-        return;
+        return Ok(());
     }
     let o = serve(
         head,
@@ -304,12 +313,21 @@ fn run<'a>(
     );
     if row.has_name {
         let a = o.answer;
-        show(a, list, records, o.written, head[EPOCH], head[TARGET_EPOCH]);
+        show(
+            out,
+            a,
+            list,
+            records,
+            o.written,
+            head[EPOCH],
+            head[TARGET_EPOCH],
+        )?;
     }
+    Ok(())
 }
 
 // What follows the last row is no row.
-fn run_table(table: &[u8]) {
+fn run_table<W: Write>(out: &mut W, table: &[u8]) -> io::Result<()> {
     let g = coordinator::fresh(0);
     let mut head = g.head;
     let mut members = g.members;
@@ -325,6 +343,7 @@ fn run_table(table: &[u8]) {
         i += 1;
         if b == b'\n' {
             run(
+                out,
                 &mut head,
                 &mut members,
                 &mut topic_ids,
@@ -335,16 +354,30 @@ fn run_table(table: &[u8]) {
                 row,
                 &mut [0u8; 64],
                 &mut [0u16; 8],
-            );
+            )?;
             row = empty_row();
         } else {
-            row = read(row, b);
+            row = read(out, row, b)?;
         }
     }
+    Ok(())
 }
 
-fn main() {
+// Reads until the table is full or the input ends.
+fn fill<R: Read>(input: &mut R, table: &mut [u8]) -> io::Result<()> {
+    let mut at: usize = 0;
+    while at < table.len() {
+        let n = input.read(&mut table[at..])?;
+        if n == 0 {
+            break;
+        }
+        at += n;
+    }
+    Ok(())
+}
+
+fn main(rt: HostRuntime) -> io::Result<()> {
     let mut table = [0u8; 8192];
-    io::read_full(0, &mut table);
-    run_table(&table);
+    fill(&mut rt.reader(), &mut table)?;
+    run_table(&mut io::writer(&rt), &table)
 }

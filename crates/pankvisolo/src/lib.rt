@@ -1,8 +1,6 @@
-// The functions of the static library, for hosts in Rust or C. A group is the host's, and an event changes it where it lies; buffers and lists are lent too; an
-// answer comes as plain numbers. No function asks anything of its caller: the contracts settle every value of every parameter. With a number that is not 0 every
-// byte of the group is as it was.
-// A function that takes a group does nothing but lend its parts, all for one lifetime. Its proof is a walk of its code, which tools/walk.py writes where the group
-// is a `&mut`.
+// The functions that hosts call. A group is the host's, and an event changes it where it lies; buffers and lists are lent too; an answer comes as plain numbers.
+// No function asks anything of its caller: the contracts settle every value of every parameter. With a number that is not 0 every byte of the group is as it was.
+// A function that takes a group does nothing but lend its parts, all for one lifetime. The static library pankvisolo_c exports each function under its name.
 #![tactic(auto)]
 
 ghost use Rattle.std.specs.Prelude.{◌≡◌, List, ℕ};
@@ -78,8 +76,7 @@ pub const BATCH: u32 = 3;
 
 // A group with no topics and no members. A host reads every answer off its numbers, and demand 3 holds of every run of the library from this group: no slot is
 // ever with two members, and three rounds of heartbeats settle every member on the target in force.
-#[unsafe(no_mangle)]
-pub extern "C" fn pankvisolo_fresh(tick: u32) -> Group
+pub fn pankvisolo_fresh(tick: u32) -> Group
     ensures { (view result ≡ fresh tick) × Decodes × LibrarySingleHolder result × LibrarySettles result }
 {
     coordinator::fresh(tick)
@@ -87,8 +84,7 @@ pub extern "C" fn pankvisolo_fresh(tick: u32) -> Group
 
 // A heartbeat. `owned` is the list that came with it, if it has one; the records go to the front of `records`, and the slots that an answer carries to the front
 // of `list`; what lies beyond them in either stays.
-#[unsafe(no_mangle)]
-pub extern "C" fn pankvisolo_heartbeat(
+pub fn pankvisolo_heartbeat(
     group: &mut Group,
     request: &Request,
     owned: &[u16],
@@ -113,8 +109,7 @@ pub extern "C" fn pankvisolo_heartbeat(
 }
 
 // Removes each member that has not been heard for the session timeout, or has slots to give back for longer than its rebalance timeout.
-#[unsafe(no_mangle)]
-pub extern "C" fn pankvisolo_sweep(group: &mut Group, tick: u32, records: &mut [u8]) -> Reply
+pub fn pankvisolo_sweep(group: &mut Group, tick: u32, records: &mut [u8]) -> Reply
     ensures { (l : List ℕ) → Serves (E.sweep tick) group.old group.new result records.old records.new l l }
 {
     lent::sweep(
@@ -131,8 +126,7 @@ pub extern "C" fn pankvisolo_sweep(group: &mut Group, tick: u32, records: &mut [
 }
 
 // Makes a topic, or raises its count.
-#[unsafe(no_mangle)]
-pub extern "C" fn pankvisolo_set_topic(
+pub fn pankvisolo_set_topic(
     group: &mut Group,
     number: u32,
     id: Id,
@@ -157,8 +151,7 @@ pub extern "C" fn pankvisolo_set_topic(
 }
 
 // Installs a target: for each slot a place, or 255 for none.
-#[unsafe(no_mangle)]
-pub extern "C" fn pankvisolo_install(
+pub fn pankvisolo_install(
     group: &mut Group,
     epoch: i32,
     entries: &[u8],
@@ -181,8 +174,7 @@ pub extern "C" fn pankvisolo_install(
 }
 
 // Writes the target of the range assignor for the group as it is: for each slot a place, or 255 for none. It changes nothing of the group.
-#[unsafe(no_mangle)]
-pub extern "C" fn pankvisolo_range_target(group: &Group, entries: &mut [u8; SLOTS])
+pub fn pankvisolo_range_target(group: &Group, entries: &mut [u8; SLOTS])
     ensures { entries.new ≡ range_target (view group.now) }
 {
     assignor::range_target(&group.members, &group.topic_counts, entries)
@@ -190,8 +182,7 @@ pub extern "C" fn pankvisolo_range_target(group: &Group, entries: &mut [u8; SLOT
 
 // Reads a journal at a tick into the group, whatever that held. What holds of every reading is `JournalTheorems`; and brokers that run on this library, one after
 // another, have the group and the file that the rules say (`LibraryContinues`), so that demand 3 goes on over the reading.
-#[unsafe(no_mangle)]
-pub extern "C" fn pankvisolo_read_journal(group: &mut Group, tick: u32, bytes: &[u8]) -> Reading
+pub fn pankvisolo_read_journal(group: &mut Group, tick: u32, bytes: &[u8]) -> Reading
     ensures { Recovers tick bytes.now group.new result × JournalTheorems × LibraryContinues }
 {
     recovering::read_journal(
@@ -208,8 +199,7 @@ pub extern "C" fn pankvisolo_read_journal(group: &mut Group, tick: u32, bytes: &
 }
 
 // Reads one batch for the group so far. A batch that is refused leaves every byte of the group as it was.
-#[unsafe(no_mangle)]
-pub extern "C" fn pankvisolo_read_batch(group: &mut Group, tick: u32, batch: &[u8]) -> bool
+pub fn pankvisolo_read_batch(group: &mut Group, tick: u32, batch: &[u8]) -> bool
     ensures { Reads result group.old group.new tick batch.now }
 {
     recovering::read_batch(
@@ -226,8 +216,7 @@ pub extern "C" fn pankvisolo_read_batch(group: &mut Group, tick: u32, batch: &[u
 }
 
 // What stands at a place of a journal, where a length would.
-#[unsafe(no_mangle)]
-pub extern "C" fn pankvisolo_next_batch(bytes: &[u8], at: usize) -> Extent
+pub fn pankvisolo_next_batch(bytes: &[u8], at: usize) -> Extent
     ensures { Stands bytes.now at result }
 {
     let extent = frames::read_extent(bytes, at);
@@ -257,16 +246,14 @@ pub extern "C" fn pankvisolo_next_batch(bytes: &[u8], at: usize) -> Extent
 
 // Writes what a journal stores of an event, the length of its records and the records, and returns how many bytes that is: 0, and nothing is written, if there are
 // no records, or more than any event writes, or there is no room.
-#[unsafe(no_mangle)]
-pub extern "C" fn pankvisolo_frame(records: &[u8], journal: &mut [u8]) -> usize
+pub fn pankvisolo_frame(records: &[u8], journal: &mut [u8]) -> usize
     ensures { Wrote (if_room (framed records.now) journal.old) journal.old journal.new result }
 {
     frames::frame(records, journal)
 }
 
 // Writes the heading of a journal and returns how many bytes that is: 0, and nothing is written, if there is no room.
-#[unsafe(no_mangle)]
-pub extern "C" fn pankvisolo_put_heading(journal: &mut [u8]) -> usize
+pub fn pankvisolo_put_heading(journal: &mut [u8]) -> usize
     ensures { Wrote (if_room heading journal.old) journal.old journal.new result }
 {
     frames::put_heading(journal)
