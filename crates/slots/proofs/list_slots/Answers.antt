@@ -1,12 +1,11 @@
 use mathlib.Core.Path.{◌≡◌, refl, sym, ◌∙◌}
 use mathlib.Core.Bool.{true}
 use mathlib.Core.List.{List, [], ◌∷◌, append-nil}
-use Prim.Native.Nat.{ℕ, ◌+◌, ◌-◌, ◌≤◌, ◌<◌}
+use Prim.Native.Nat.{ℕ, ◌+◌, ◌-◌, ◌<◌}
 use native.Mathlib.Omega.{arith}
 use Rattle.rules.specs.Basics.{keep, up_to}
 use Rattle.rules.specs.Constants.{slot_count}
 use Rattle.slots.specs.Set.{has, select, slots_of}
-use Rattle.slots.specs.Walk.{Left}
 use Rattle.numbers.proofs.Writing.{Writing, begin, to_go₁, same_len, put_one, ended}
 use Rattle.slots.proofs.Selecting.{select_in, next_ahead, next_skips}
 use Rattle.slots.proofs.list_slots.Goals as goal
@@ -51,9 +50,13 @@ pub loop-s-preserved : goal.loop-s-preserved
 loop-s-preserved c =
     let l = c.loop-s in
     let e = c.after-s.ensures l.invariant.2 in
-    let ws = c.args.a.words in
-    (e.0.0, λ h. (e.0.2 h).1, e.1, rw (next_skips ws (l.s.slot + 1) c.after-s.result.slot (omega arith) e.0) at
-    (put_one (hit ws c.args.out.now l.out l.at l.s.slot (omega arith) (l.invariant.1 (omega arith)) l.invariant.3)))
+    let ws = c.args.a.words in (
+      e.0.0,
+      λ h. (e.0.2 h).1,
+      e.1,
+      rw (next_skips ws (l.s.slot + 1) c.after-s.result.slot (omega arith) e.0) at
+          (put_one (hit ws c.args.out.now l.out l.at l.s.slot (omega arith) (l.invariant.1 (omega arith)) l.invariant.3)),
+    )
 
 pub shape_of-out : goal.shape_of-out
 shape_of-out c = same_len c.loop-s.invariant.3
