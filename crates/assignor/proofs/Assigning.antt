@@ -1,5 +1,6 @@
 -- What is written is the rules' target. The places in order, of which those that subscribe are kept, are the subscribers in order (`subscribers_are`): so are the
 -- entries of each topic (`entries_are`) and of all (`all_are`). Then the entries one topic after another. Assumes nothing.
+use Rattle.std.specs.Prelude.{if◌then◌else◌}
 use Prim.Native.Nat.{ℕ, zero, suc, ◌+◌, ◌-◌, ◌*◌, ◌≤◌, ◌<◌, min}
 use native.Mathlib.Nat.{zero-add}
 use native.Mathlib.Numerals.{add-one}
@@ -11,7 +12,7 @@ use mathlib.Core.Option.{Option, none, some}
 use lib.Dec.{eqb}
 use lib.ListN.{length, get_or, length-append, drop_of_length-le}
 use borrow.Author.Tests.{ne_eqb}
-use Rattle.rules.specs.Basics.{case_of, concat_map, default, if◌then◌else◌, indices, keep, up_to}
+use Rattle.rules.specs.Basics.{case_of, concat_map, default, indices, keep, up_to}
 use Rattle.rules.specs.Constants.{max_members, max_partitions, slot_count, topic_count}
 use Rattle.rules.specs.Group as G
 use Rattle.rules.specs.Group.{includes_topic, member_at, nobody, subscribes}

@@ -3,8 +3,7 @@
 // An array taken as a slice has no code: it tells the prover the array's length.
 #![tactic(auto)]
 
-ghost use Rattle.std.specs.Prelude.{◌≡◌, List, ℕ, suc, ◌≤◌, ◌<◌, ◌+◌, min, ltb, length, replicate};
-ghost use Rattle.rules.specs.Basics.{if◌then◌else◌};
+ghost use Rattle.std.specs.Prelude.{◌≡◌, List, ℕ, suc, ◌≤◌, ◌<◌, ◌+◌, min, ltb, length, replicate, if◌then◌else◌};
 ghost use Rattle.rules.specs.Constants.{max_partitions, slot_count, topic_count};
 ghost use Rattle.rules.specs.Group.{Group};
 ghost use Rattle.rules.specs.Assignor.{padded, range_target, runs};

@@ -1,4 +1,5 @@
 -- A record 7 laid over a target, in two passes: no entry is its place, then the entries of its slots are.
+use Rattle.std.specs.Prelude.{if◌then◌else◌}
 use mathlib.Core.Path.{◌≡◌, refl, sym, ap, ap₂, ◌∙◌}
 use mathlib.Core.Bool.{Bool}
 use mathlib.Core.List.{List, [], ◌∷◌}
@@ -9,7 +10,7 @@ use native.Mathlib.Omega.{arith}
 use lib.Dec.{eqb}
 use lib.ListN.{length, get_or}
 use lib.Seq.{ext_get_or}
-use Rattle.rules.specs.Basics.{if◌then◌else◌, any}
+use Rattle.rules.specs.Basics.{any}
 use Rattle.rules.specs.Constants.{no_place, slot_count}
 use Rattle.rules.specs.Batches.{laid}
 use Rattle.slots.specs.Set.{has, slots_of}

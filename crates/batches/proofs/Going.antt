@@ -1,11 +1,12 @@
 -- A batch read record by record: its records are those taken so far and those from the place on.
+use Rattle.std.specs.Prelude.{if◌then◌else◌}
 use mathlib.Core.Path.{◌≡◌, refl, sym, ap, ◌∙◌}
 use mathlib.Core.Bool.{Bool, true, false, ◌&&◌, true≢false}
 use mathlib.Core.List.{List, [], ◌∷◌, ◌++◌, append-nil, append_assoc}
 use mathlib.Core.Option.{Option, none, some}
 use Prim.Native.Nat.{ℕ, ◌≤◌, ◌<◌}
 use lib.ListN.{length, drop}
-use Rattle.rules.specs.Basics.{if◌then◌else◌, all, case_of, given}
+use Rattle.rules.specs.Basics.{all, case_of, given}
 use Rattle.rules.specs.Records.{Record, fits, placed}
 use Rattle.rules.specs.Reader.{joined, read_all}
 use Rattle.reading.specs.Fitting.{read_fitting_all}

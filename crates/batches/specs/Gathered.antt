@@ -1,8 +1,8 @@
 -- What the records of a batch say, gathered in one pass.
-use Rattle.std.specs.Prelude.{ℕ, ◌<◌, ◌≡◌, Bool, true, false, not, ◌&&◌, get_or, eqb}
+use Rattle.std.specs.Prelude.{ℕ, ◌<◌, ◌≡◌, Bool, true, false, not, ◌&&◌, get_or, eqb, if◌then◌else◌}
 use mathlib.Core.List.{List, foldl}
 use Rattle.std.proofs.Math.Option.{Option, none, some}
-use Rattle.rules.specs.Basics.{if◌then◌else◌, all, any, case_of, empty}
+use Rattle.rules.specs.Basics.{all, any, case_of, empty}
 use Rattle.rules.specs.Constants.{max_members}
 use Rattle.rules.specs.Records.{CurrentAssignment, MemberMetadata, Record, TopicMetadata, fits, placed}
 use Rattle.rules.specs.Reader.{read_all}

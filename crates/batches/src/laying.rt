@@ -1,6 +1,5 @@
 // A record 7 laid over a target: its place gets its slots and no other.
-ghost use Rattle.std.specs.Prelude.{◌≡◌, eqb, length};
-ghost use Rattle.rules.specs.Basics.{if◌then◌else◌};
+ghost use Rattle.std.specs.Prelude.{◌≡◌, eqb, length, if◌then◌else◌};
 ghost use Rattle.rules.specs.Constants.{no_place, slot_count};
 ghost use Rattle.rules.specs.Batches.{laid};
 ghost use Rattle.slots.specs.Set.{has, slots_of};

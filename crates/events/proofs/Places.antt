@@ -1,5 +1,6 @@
 -- Loops over the places, at all of them or at those that a test picks: a loop keeps the list of the places that are left. What is stored place by place is
 -- told by such a list alone, however it was picked. Last, a table of marks in which a place is marked.
+use Rattle.std.specs.Prelude.{if◌then◌else◌}
 use Prim.Native.Nat.{ℕ, zero, suc, ◌+◌, ◌-◌, ◌≤◌, ◌<◌}
 use native.Mathlib.Omega.{arith}
 use native.Mathlib.Decide.{ℕ_discrete}
@@ -11,7 +12,7 @@ use lib.Dec.{eqb}
 use lib.ListN.{length, get_or, set, length-append}
 use lib.Seq.{get_or-set_same, get_or-set_other}
 use borrow.Author.Tests.{eq-eqb, ne_eqb}
-use Rattle.rules.specs.Basics.{if◌then◌else◌, concat_map, up_to, keep}
+use Rattle.rules.specs.Basics.{concat_map, up_to, keep}
 use Rattle.rules.specs.Constants.{max_members}
 use Rattle.rules.specs.Records.{Record, all_bytes}
 use Rattle.slots.proofs.Selecting.{select_in, select_out}

@@ -1,7 +1,6 @@
 -- What the code's values stand for: the step that an outcome shows, and the request of the rules that a heartbeat's parameters are.
-use Rattle.std.specs.Prelude.{ℕ, ◌≡◌, Bool, List, [], ◌∷◌, ◌++◌}
+use Rattle.std.specs.Prelude.{ℕ, ◌≡◌, Bool, List, [], ◌∷◌, ◌++◌, if◌then◌else◌}
 use Rattle.std.proofs.Math.Option.{Option, none, some}
-use Rattle.rules.specs.Basics.{if◌then◌else◌}
 use Rattle.rules.specs.Group as G
 use Rattle.rules.specs.Event as E
 use Rattle.rules.specs.Refusals.{Kind, ◌when◌, first_of, goes_back, heartbeat_table}

@@ -1,6 +1,5 @@
 -- What the functions on a file's form answer, and what they leave in a lent buffer.
-use Rattle.std.specs.Prelude.{ℕ, ◌+◌, ◌-◌, ◌≤◌, ◌<◌, ◌≡◌, List, [], length, take, drop, ltb}
-use Rattle.rules.specs.Basics.{if◌then◌else◌}
+use Rattle.std.specs.Prelude.{ℕ, ◌+◌, ◌-◌, ◌≤◌, ◌<◌, ◌≡◌, List, [], length, take, drop, ltb, if◌then◌else◌}
 use Rattle.rules.specs.Constants.{batch_limit}
 use Rattle.rules.specs.Group.{Group, fresh}
 use Rattle.rules.specs.Journal as J

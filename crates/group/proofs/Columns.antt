@@ -1,10 +1,11 @@
 -- The members that the columns stand for: at a place, with a place changed, and searched by words.
+use Rattle.std.specs.Prelude.{if◌then◌else◌}
 use Rattle.std.proofs.Common.{◌≡◌, ℕ, zero, suc, ◌+◌, ◌%◌, ◌<◌, ◌≤◌, Bool, true, false, not, ◌&&◌, eqb, ltb, List, [], ◌∷◌, length, get_or, set, sym, refl, ap, ◌∙◌, subst, zero-add, arith, get_or-set_other, get_or-set_same, le-ltb, lt-ltb, ne_eqb, eqb-true}
 use native.Mathlib.Decide.{dec_lt}
 use mathlib.Core.Option.{Option, none, some}
 use lib.ListN.{get_or-eq_default}
 use lib.Seq.{set_out}
-use Rattle.rules.specs.Basics.{if◌then◌else◌, any, find, same}
+use Rattle.rules.specs.Basics.{any, find, same}
 use Rattle.rules.specs.Constants.{max_members, subscription_count}
 use Rattle.rules.specs.Group as G
 use Rattle.rules.specs.Group.{is_member, vacant}

@@ -1,8 +1,9 @@
 -- What a caller learns from a search of the places: the answer's case says whether there is such a place, and the seat at the place where a member was found is
 -- that member's.
+use Rattle.std.specs.Prelude.{if◌then◌else◌}
 use Rattle.std.proofs.Common.{◌≡◌, ℕ, Bool, true, false, List, get_or, sym, refl, ap, ◌∙◌, subst}
 use mathlib.Core.Option.{none, some}
-use Rattle.rules.specs.Basics.{if◌then◌else◌, any, find}
+use Rattle.rules.specs.Basics.{any, find}
 use Rattle.rules.specs.Group as G
 use Rattle.rules.specs.Group.{is_member}
 use Rattle.rules.specs.declared.Place.{Place}

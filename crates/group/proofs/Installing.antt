@@ -1,13 +1,14 @@
 -- The entries of an install: the test over two lists of numbers and the wanted topics is the rules' test of the group, and a loop finds the first that it
 -- refuses.
 -- Assumes nothing.
+use Rattle.std.specs.Prelude.{if◌then◌else◌}
 use Rattle.std.proofs.Common.{◌≡◌, ℕ, suc, ◌+◌, ◌/◌, ◌%◌, ◌^◌, ◌<◌, ◌≤◌, Bool, true, false, not, ◌&&◌, ◌||◌, eqb, List, [], ◌∷◌, map, length, get_or, drop, sym, refl, ap, ◌∙◌, subst, ap₂, add-one, arith, drop_of_length-le, drop-cons, pow_pos, pow_mono}
 use native.Mathlib.Nat.{div-eq_of_lt}
 use mathlib.Core.Bool.{or-false, or_assoc}
 use mathlib.Core.Option.{Option, none, some}
 use lib.ListN.{get_or-map}
 use lib.Bits.{bit_or}
-use Rattle.rules.specs.Basics.{any, first_with, if◌then◌else◌}
+use Rattle.rules.specs.Basics.{any, first_with}
 use Rattle.rules.specs.Constants.{max_partitions, no_place, topic_count}
 use Rattle.rules.specs.Group as G
 use Rattle.rules.specs.Group.{includes_topic, subscribes, below_count, exists}

@@ -1,8 +1,8 @@
 -- Whoever is at a place, read from the columns: whether somebody is, and whether a sweep removes it. Assumes nothing.
+use Rattle.std.specs.Prelude.{if◌then◌else◌}
 use Rattle.std.proofs.Common.{◌≡◌, ℕ, ◌%◌, ◌<◌, Bool, true, false, not, ◌&&◌, ◌||◌, leb, List, get_or, sym, refl, ap, ◌∙◌}
 use mathlib.Core.Bool.{and-false, and-true, false≢true}
 use mathlib.Core.Option.{Option, none, some}
-use Rattle.rules.specs.Basics.{if◌then◌else◌}
 use Rattle.rules.specs.Constants.{max_members, subscription_count, session_timeout}
 use Rattle.rules.specs.Effects.{due}
 use Rattle.rules.specs.Group as G

@@ -1,8 +1,8 @@
 -- What follows where a row of the table does not apply. Assumes nothing.
+use Rattle.std.specs.Prelude.{if◌then◌else◌}
 use Rattle.std.proofs.Common.{◌≡◌, ℕ, suc, ◌<◌, ◌≤◌, Bool, true, false, not, ◌&&◌, ltb, leb, List, refl, arith, ltb-false, le-ltb, lt-ltb, le-leb, leb-false}
 use native.Mathlib.Decide.{dec_lt}
 use borrow.Author.Tests.{eqb-false, lt-leb}
-use Rattle.rules.specs.Basics.{if◌then◌else◌}
 use Rattle.rules.specs.Constants.{topic_count, max_partitions, last_epoch}
 use Rattle.rules.specs.Group.{Group, raised}
 use Rattle.rules.specs.Refusals.{topic_bad}

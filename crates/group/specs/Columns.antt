@@ -1,7 +1,7 @@
 -- The members in nine columns, an entry of each for each place. A place whose four words of an ID are zero has no member: no ID is all zero.
-use Rattle.std.specs.Prelude.{◌≡◌, ℕ, zero, suc, ◌+◌, ◌*◌, ◌%◌, ◌<◌, false, not, ◌&&◌, List, [], ◌∷◌, map, length, replicate, ◌==◌, nat_lt, slice_index, slice_set}
+use Rattle.std.specs.Prelude.{◌≡◌, ℕ, zero, suc, ◌+◌, ◌*◌, ◌%◌, ◌<◌, false, not, ◌&&◌, List, [], ◌∷◌, map, length, replicate, ◌==◌, nat_lt, slice_index, slice_set, if◌then◌else◌}
 use Rattle.std.proofs.Math.Option.{Option, none, some}
-use Rattle.rules.specs.Basics.{if◌then◌else◌, up_to}
+use Rattle.rules.specs.Basics.{up_to}
 use Rattle.rules.specs.Constants.{max_members, id_length, subscription_count}
 use Rattle.rules.specs.Group as G
 use Rattle.search.specs.Places.{matches, id_of}

@@ -1,7 +1,7 @@
 -- What the entries of an install are tried against: the count of each topic, 0 where there is none, and the subscription at each place.
-use Rattle.std.specs.Prelude.{◌≡◌, ℕ, ◌/◌, ◌%◌, Bool, not, ◌&&◌, List, ◌==◌, nat_lt, slice_index}
+use Rattle.std.specs.Prelude.{◌≡◌, ℕ, ◌/◌, ◌%◌, Bool, not, ◌&&◌, List, ◌==◌, nat_lt, slice_index, if◌then◌else◌}
 use Rattle.std.proofs.Math.Option.{Option, none, some}
-use Rattle.rules.specs.Basics.{any, if◌then◌else◌}
+use Rattle.rules.specs.Basics.{any}
 use Rattle.rules.specs.Constants.{max_partitions, no_place}
 use Rattle.rules.specs.Group as G
 use Rattle.rules.specs.Group.{includes_topic}

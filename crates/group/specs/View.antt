@@ -1,7 +1,7 @@
 -- The group of the rules that the struct stands for: every value of the struct stands for one.
-use Rattle.std.specs.Prelude.{ℕ, ◌*◌, Bool, List, map, take, drop, ◌==◌, slice_index}
+use Rattle.std.specs.Prelude.{ℕ, ◌*◌, Bool, List, map, take, drop, ◌==◌, slice_index, if◌then◌else◌}
 use Rattle.std.proofs.Math.Option.{Option, none, some}
-use Rattle.rules.specs.Basics.{if◌then◌else◌, up_to}
+use Rattle.rules.specs.Basics.{up_to}
 use Rattle.rules.specs.Constants.{topic_count, id_length}
 use Rattle.rules.specs.Group as G
 use Rattle.tables.specs.View.{view_lists}

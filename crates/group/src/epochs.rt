@@ -1,6 +1,5 @@
 // The group epoch and its largest value, 2,147,483,647. Inside the group an epoch is never negative; one that comes in may be.
-ghost use Rattle.std.specs.Prelude.{◌≡◌, ◌&&◌, nat_le};
-ghost use Rattle.rules.specs.Basics.{if◌then◌else◌};
+ghost use Rattle.std.specs.Prelude.{◌≡◌, ◌&&◌, nat_le, if◌then◌else◌};
 ghost use Rattle.rules.specs.Constants.{last_epoch};
 ghost use Rattle.rules.specs.Group.{raised};
 ghost use Rattle.rules.specs.Refusals.{is_epoch, kind_of};

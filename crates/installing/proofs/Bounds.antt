@@ -1,4 +1,5 @@
 -- How many bytes the records of an install take at most: no slot is in the sets of two places, so that all sets together have no more slots than there are.
+use Rattle.std.specs.Prelude.{if◌then◌else◌}
 use Prim.Native.Nat.{ℕ, zero, suc, ◌+◌, ◌-◌, ◌*◌, ◌^◌, ◌≤◌, ◌<◌}
 use native.Mathlib.Nat.{zero-add}
 use native.Mathlib.Omega.{arith}
@@ -9,7 +10,7 @@ use mathlib.Core.List.{List, [], ◌∷◌}
 use lib.Dec.{eqb}
 use lib.ListN.{length, get_or, length-append}
 use borrow.Author.Tests.{ne_eqb}
-use Rattle.rules.specs.Basics.{if◌then◌else◌, concat_map, indices, keep, up_to}
+use Rattle.rules.specs.Basics.{concat_map, indices, keep, up_to}
 use Rattle.rules.specs.Constants.{max_members, slot_count}
 use Rattle.rules.specs.Group.{targeted, set_m}
 use Rattle.rules.specs.Records.{differences, set_bytes, all_bytes, bytes_of}

@@ -1,5 +1,6 @@
 -- The set of a place in a target: it is picked slot by slot (`set_is`), and who holds a slot is no matter (`viewed`). Two targets give a
 -- place the same set where they have it at the same slots (`same_sets`), and only there (`other_sets`). Then the pass that marks the places whose sets differ.
+use Rattle.std.specs.Prelude.{if◌then◌else◌}
 use Prim.Native.Nat.{ℕ, suc, ◌+◌, ◌<◌}
 use native.Mathlib.Nat.{suc_inj, zero-add}
 use native.Mathlib.Omega.{arith}
@@ -10,7 +11,7 @@ use lib.Dec.{eqb}
 use lib.ListN.{length, get_or, length-map, get_or-map}
 use borrow.Author.Count.{below_more}
 use borrow.Author.Tests.{eq-eqb, eqb-true}
-use Rattle.rules.specs.Basics.{if◌then◌else◌, any, indices, same}
+use Rattle.rules.specs.Basics.{any, indices, same}
 use Rattle.rules.specs.Constants.{max_members, slot_count, no_place}
 use Rattle.rules.specs.Group.{SlotState, free_slot, targeted, set_m}
 use Rattle.slots.specs.Set.{select}

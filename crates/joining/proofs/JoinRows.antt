@@ -1,5 +1,6 @@
 -- What a join comes to. The rows of its table, each law under the results of the rows before it; the place that a joiner takes; and the effect
 -- that is carried out, whose records, group and answer are those of the values that the code works out. Assumes nothing.
+use Rattle.std.specs.Prelude.{if◌then◌else◌}
 use Prim.Native.Nat.{ℕ, suc, ◌≤◌, ◌<◌}
 use native.Mathlib.Omega.{arith}
 use mathlib.Core.Path.{◌≡◌, refl, sym, ap, ◌∙◌}
@@ -9,7 +10,7 @@ use mathlib.Core.Option.{Option, some}
 use lib.Dec.{eqb, leb}
 use lib.ListN.{length, get_or, set}
 use borrow.Author.Tests.{ne_eqb}
-use Rattle.rules.specs.Basics.{if◌then◌else◌, any, find, empty}
+use Rattle.rules.specs.Basics.{any, find, empty}
 use Rattle.rules.specs.Constants.{last_epoch, heartbeat_interval}
 use Rattle.rules.specs.Group as G
 use Rattle.rules.specs.Group.{Group, is_member, known, place_of, vacant, lowest_free, targeted, nobody}

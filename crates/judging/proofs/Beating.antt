@@ -1,4 +1,5 @@
 -- The heartbeat of the member at a seat: whether its numbers fit, and what the request is then.
+use Rattle.std.specs.Prelude.{if◌then◌else◌}
 use Prim.Native.Nat.{ℕ, ◌%◌, ◌≤◌, ◌<◌}
 use native.Mathlib.Omega.{arith}
 use mathlib.Core.Path.{◌≡◌, refl, sym, ap, ◌∙◌, subst}
@@ -9,7 +10,7 @@ use lib.Dec.{eqb, leb, ltb}
 use lib.IntN.{ℤ, pos, negsuc}
 use lib.ListN.{length, get_or}
 use borrow.Author.Tests.{eq-eqb, eqb-true, le-leb, le-ltb, leb-true, lt-leb, lt-ltb, ltb-true, ne_eqb}
-use Rattle.rules.specs.Basics.{if◌then◌else◌, default}
+use Rattle.rules.specs.Basics.{default}
 use Rattle.rules.specs.Constants.{id_length, last_epoch, subscription_count}
 use Rattle.rules.specs.Group as G
 use Rattle.rules.specs.Group.{Member, member_at, nobody}

@@ -1,4 +1,5 @@
 -- Which candidate the records of a batch make, by what was gathered of them.
+use Rattle.std.specs.Prelude.{if◌then◌else◌}
 use Prim.Native.Nat.{ℕ}
 use mathlib.Core.Path.{◌≡◌, refl, sym, ap, ◌∙◌}
 use mathlib.Core.Bool.{Bool, true, false, false≢true, true≢false}
@@ -9,7 +10,7 @@ use lib.IntN.{pos}
 use lib.ListN.{length}
 use native.Mathlib.Omega.{arith}
 use borrow.Author.Tests.{not-true, not-false}
-use Rattle.rules.specs.Basics.{if◌then◌else◌, case_of, empty, given}
+use Rattle.rules.specs.Basics.{case_of, empty, given}
 use Rattle.rules.specs.Group as G
 use Rattle.rules.specs.Group.{member_at}
 use Rattle.rules.specs.Records.{CurrentAssignment, MemberMetadata, Record, TopicMetadata}

@@ -1,5 +1,6 @@
 -- An event that the code's own function ran, with a scratch buffer no shorter than the batch, is judged as the rules judge it. Records that do not fit the
 -- buffer are longer than the batch, so not the same; and a refusal writes nothing, while a batch has bytes.
+use Rattle.std.specs.Prelude.{if◌then◌else◌}
 use Prim.Native.Nat.{ℕ, ◌≤◌, ◌<◌}
 use native.Mathlib.Omega.{arith}
 use mathlib.Core.Path.{◌≡◌, refl, sym, ap, ◌∙◌}
@@ -9,7 +10,7 @@ use mathlib.Core.Option.{Option, none, some}
 use lib.Dec.{ltb}
 use lib.ListN.{length, drop, length-append}
 use borrow.Author.Tests.{le-leb, le-ltb, ltb-true}
-use Rattle.rules.specs.Basics.{if◌then◌else◌, empty, same}
+use Rattle.rules.specs.Basics.{empty, same}
 use Rattle.rules.specs.Group.{Group}
 use Rattle.rules.specs.Records.{all_bytes}
 use Rattle.rules.specs.Event.{Event}

@@ -1,4 +1,5 @@
 -- The columns of the ticks set: what the members that they stand for become.
+use Rattle.std.specs.Prelude.{if◌then◌else◌}
 use Prim.Native.Nat.{ℕ, suc, ◌+◌, ◌%◌, ◌≤◌, ◌<◌}
 use native.Mathlib.Omega.{arith}
 use native.Mathlib.Nat.{zero-add}
@@ -10,7 +11,7 @@ use lib.Dec.{eqb}
 use lib.ListN.{length, get_or, set, length-map, length-set, get_or-map}
 use lib.Seq.{ext_get_or, get_or-set_same, get_or-set_other}
 use borrow.Author.Count.{below_none, below_more}
-use Rattle.rules.specs.Basics.{if◌then◌else◌, any}
+use Rattle.rules.specs.Basics.{any}
 use Rattle.rules.specs.Constants.{max_members, subscription_count}
 use Rattle.rules.specs.Group as G
 use Rattle.rules.specs.Batches.{heard_at, retimed, retimed_member, silent}

@@ -1,7 +1,7 @@
 -- The heartbeat that the records of a batch can only be of, as the code makes it.
-use Rattle.std.specs.Prelude.{ℕ, ◌≡◌, Bool, true, false, List, [], eqb, ℤ, pos, negsuc}
+use Rattle.std.specs.Prelude.{ℕ, ◌≡◌, Bool, true, false, List, [], eqb, ℤ, pos, negsuc, if◌then◌else◌}
 use Rattle.std.proofs.Math.Option.{Option, none, some}
-use Rattle.rules.specs.Basics.{if◌then◌else◌, case_of}
+use Rattle.rules.specs.Basics.{case_of}
 use Rattle.rules.specs.Group as G
 use Rattle.rules.specs.Records.{Record}
 use Rattle.rules.specs.Event.{Request, heartbeat}

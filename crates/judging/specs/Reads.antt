@@ -1,7 +1,7 @@
 -- What reading a batch is promised to be, and what running the one event is that it can be of.
-use Rattle.std.specs.Prelude.{ℕ, ◌≤◌, ◌≡◌, Bool, false, ◌&&◌, List, length, take, leb}
+use Rattle.std.specs.Prelude.{ℕ, ◌≤◌, ◌≡◌, Bool, false, ◌&&◌, List, length, take, leb, if◌then◌else◌}
 use Rattle.std.proofs.Math.Option.{Option, none, some}
-use Rattle.rules.specs.Basics.{if◌then◌else◌, empty, same}
+use Rattle.rules.specs.Basics.{empty, same}
 use Rattle.rules.specs.Constants.{batch_limit}
 use Rattle.rules.specs.Group as G
 use Rattle.rules.specs.Batches.{Witness, judged, read_batch}

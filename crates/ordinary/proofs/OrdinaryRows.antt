@@ -1,5 +1,6 @@
 -- The rows of an ordinary heartbeat by the tests that the code makes, one law for each row, in nested modules that carry the rows before it; and a plan
 -- carried out, which is the effect that the rules give. Assumes nothing.
+use Rattle.std.specs.Prelude.{if◌then◌else◌}
 use Prim.Native.Nat.{ℕ, suc}
 use mathlib.Core.Path.{◌≡◌, refl, sym, ap, ◌∙◌}
 use mathlib.Core.Bool.{Bool, true, false, ◌&&◌, ◌||◌}
@@ -7,7 +8,7 @@ use mathlib.Core.List.{List, []}
 use mathlib.Core.Option.{some}
 use lib.Dec.{eqb, leb}
 use lib.ListN.{length, set}
-use Rattle.rules.specs.Basics.{if◌then◌else◌, any, default}
+use Rattle.rules.specs.Basics.{any, default}
 use Rattle.rules.specs.Constants.{last_epoch, heartbeat_interval}
 use Rattle.rules.specs.Group as G
 use Rattle.rules.specs.Group.{Group, known}

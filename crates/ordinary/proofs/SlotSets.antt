@@ -1,4 +1,5 @@
 -- A pick over the slots is a set of slots, so that a list which is A of a place is no bad one. Assumes nothing.
+use Rattle.std.specs.Prelude.{if◌then◌else◌}
 use Prim.Native.Nat.{ℕ, suc, ◌+◌, ◌≤◌}
 use native.Mathlib.Omega.{arith}
 use mathlib.Core.Path.{◌≡◌, refl, sym, ap, ◌∙◌}
@@ -7,7 +8,7 @@ use mathlib.Core.List.{List, [], ◌∷◌}
 use lib.Dec.{ltb, leb}
 use lib.ListN.{length}
 use borrow.Author.Tests.{lt-ltb, le-leb, leb-true}
-use Rattle.rules.specs.Basics.{if◌then◌else◌, all, indices, rising}
+use Rattle.rules.specs.Basics.{all, indices, rising}
 use Rattle.rules.specs.Constants.{slot_count}
 use Rattle.rules.specs.Group.{SlotState, assigned, set_a}
 use Rattle.rules.specs.Refusals.{is_slot_set, bad_list}

@@ -1,6 +1,7 @@
 -- Steps 1 to 3 on the member record are steps 1 to 3 of the rules, and so a plan made of them is one of the rules (`plan_is`). A member that waits keeps the
 -- sets that were gathered. Of any other P is empty or freed; where slots are revoked both sets are those of the step, and where none are P stays empty
 -- (`Freeing`). Assumes nothing.
+use Rattle.std.specs.Prelude.{if◌then◌else◌}
 use Prim.Native.Nat.{ℕ, max}
 use mathlib.Core.Path.{◌≡◌, refl, sym, ap, ◌∙◌}
 use mathlib.Core.Bool.{Bool, true, false, not, ◌&&◌, ◌||◌, true≢false}
@@ -8,7 +9,6 @@ use mathlib.Core.List.{List, []}
 use mathlib.Core.Option.{Option}
 use lib.Dec.{eqb}
 use lib.ListN.{length, get_or-replicate}
-use Rattle.rules.specs.Basics.{if◌then◌else◌}
 use Rattle.rules.specs.Constants.{slot_count}
 use Rattle.rules.specs.Event as E
 use Rattle.rules.specs.Group as G

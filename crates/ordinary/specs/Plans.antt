@@ -1,7 +1,7 @@
 -- What an ordinary heartbeat decides before anything is written, and the effect that a plan stands for; and what is asked of one that is quiet.
-use Rattle.std.specs.Prelude.{ℕ, ◌≤◌, ◌<◌, ◌≡◌, true, false, ◌&&◌, List, [], ◌∷◌, length, get_or, set}
+use Rattle.std.specs.Prelude.{ℕ, ◌≤◌, ◌<◌, ◌≡◌, true, false, ◌&&◌, List, [], ◌∷◌, length, get_or, set, if◌then◌else◌}
 use Rattle.std.proofs.Math.Option.{none, some}
-use Rattle.rules.specs.Basics.{if◌then◌else◌, any, default}
+use Rattle.rules.specs.Basics.{any, default}
 use Rattle.rules.specs.Constants.{max_members, slot_count, heartbeat_interval}
 use Rattle.rules.specs.Group as G
 use Rattle.rules.specs.Group.{raised}

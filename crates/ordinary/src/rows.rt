@@ -1,6 +1,6 @@
 // The first row 42 of an ordinary heartbeat, in two parts: its list is looked at last, since the quick path needs no look at it.
-ghost use Rattle.std.specs.Prelude.{◌≡◌, ◌||◌, []};
-ghost use Rattle.rules.specs.Basics.{if◌then◌else◌, default};
+ghost use Rattle.std.specs.Prelude.{◌≡◌, ◌||◌, [], if◌then◌else◌};
+ghost use Rattle.rules.specs.Basics.{default};
 ghost use Rattle.rules.specs.Refusals.{zero_id, bad_timeout, bad_list};
 ghost use Rattle.tables.specs.Advances.{owned_of};
 

@@ -1,6 +1,5 @@
 -- The answer that a reply's plain numbers stand for: a host knows which event it sent, so it can read the answer off the numbers, `said` of the rules backwards.
-use Rattle.std.specs.Prelude.{ℕ, ◌≡◌, List, [], ◌∷◌, ℤ, pos, negsuc, eqb}
-use Rattle.rules.specs.Basics.{if◌then◌else◌}
+use Rattle.std.specs.Prelude.{ℕ, ◌≡◌, List, [], ◌∷◌, ℤ, pos, negsuc, eqb, if◌then◌else◌}
 use Rattle.rules.specs.Group.{Group}
 use Rattle.rules.specs.Event.{Event, heartbeat, sweep, topic, install}
 use Rattle.rules.specs.Answers.{Said, number_of, said, slot_number}

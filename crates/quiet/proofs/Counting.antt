@@ -1,11 +1,12 @@
 -- How many numbers pass a test: one number more, at the end.
+use Rattle.std.specs.Prelude.{if◌then◌else◌}
 use Prim.Native.Nat.{ℕ, zero, suc, ◌+◌}
 use native.Mathlib.Omega.{arith}
 use mathlib.Core.Path.{◌≡◌, refl, ap, ◌∙◌}
 use mathlib.Core.Bool.{Bool, true, false}
 use mathlib.Core.List.{List, ◌∷◌}
 use lib.ListN.{length}
-use Rattle.rules.specs.Basics.{if◌then◌else◌, keep, up_to}
+use Rattle.rules.specs.Basics.{keep, up_to}
 use Rattle.slots.specs.Set.{select}
 use Rattle.quiet.specs.Settling.{near_at, near_count}
 

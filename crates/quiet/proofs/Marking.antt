@@ -1,10 +1,10 @@
 -- Marks that are all 0: each slot passed is settled.
+use Rattle.std.specs.Prelude.{if◌then◌else◌}
 use Prim.Native.Nat.{ℕ, ◌+◌, ◌<◌}
 use native.Mathlib.Decide.{dec_lt}
 use native.Mathlib.Omega.{arith}
 use mathlib.Core.Path.{◌≡◌, refl, subst}
 use mathlib.Core.Bool.{Bool, true, false}
-use Rattle.rules.specs.Basics.{if◌then◌else◌}
 
 pub unmarked : (x : Bool) (m : ℕ) → m ≡ (if x then 0 else 1) → m ≡ 0 → x ≡ true
 unmarked true m e z = refl

@@ -1,4 +1,5 @@
 -- A set of slots that are settled, as many as are near the place, is all that the place holds and is to have (`quiet`).
+use Rattle.std.specs.Prelude.{if◌then◌else◌}
 use Prim.Native.Nat.{ℕ, suc, ◌<◌}
 use native.Mathlib.Nat.{zero-add}
 use native.Mathlib.Omega.{arith}
@@ -8,7 +9,7 @@ use mathlib.Core.List.{List, [], ◌∷◌}
 use lib.Dec.{eqb, ltb, leb}
 use lib.ListN.{length, get_or}
 use borrow.Author.Tests.{leb-true, ltb-true, eqb-true}
-use Rattle.rules.specs.Basics.{if◌then◌else◌, all, any, indices, rising}
+use Rattle.rules.specs.Basics.{all, any, indices, rising}
 use Rattle.rules.specs.Constants.{slot_count, no_place}
 use Rattle.rules.specs.Group.{SlotState, free_slot, assigned, revoking, targeted, set_a}
 use Rattle.rules.specs.Effects.{stray, claimed}

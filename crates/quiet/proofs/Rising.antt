@@ -1,4 +1,5 @@
 -- A rising list of numbers that all pass a test, as long as there are numbers that pass, is the list of them (`exactly`).
+use Rattle.std.specs.Prelude.{if◌then◌else◌}
 use Prim.Native.Nat.{ℕ, zero, suc, ◌+◌, ◌≤◌, ◌<◌}
 use native.Mathlib.Decide.{dec_lt}
 use native.Mathlib.Omega.{arith}
@@ -6,7 +7,7 @@ use mathlib.Core.Path.{◌≡◌, refl, sym, ap, ap₂, ◌∙◌, subst}
 use mathlib.Core.Bool.{Bool, true, false, true≢false}
 use mathlib.Core.List.{List, [], ◌∷◌}
 use lib.ListN.{length}
-use Rattle.rules.specs.Basics.{if◌then◌else◌, keep, up_to}
+use Rattle.rules.specs.Basics.{keep, up_to}
 use Rattle.slots.specs.Set.{select}
 
 -- strictly rising, from n on and below e, each passing f

@@ -2,8 +2,7 @@
 // The tables are lent, and no set is gathered.
 #![tactic(auto)]
 
-ghost use Rattle.std.specs.Prelude.{◌≡◌, true, ◌+◌, ◌≤◌};
-ghost use Rattle.rules.specs.Basics.{if◌then◌else◌};
+ghost use Rattle.std.specs.Prelude.{◌≡◌, true, ◌+◌, ◌≤◌, if◌then◌else◌};
 ghost use Rattle.rules.specs.Constants.{slot_count};
 ghost use Rattle.rules.specs.Refusals.{is_slot_set};
 ghost use Rattle.tables.specs.View.{view_lists};

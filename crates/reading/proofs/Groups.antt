@@ -1,4 +1,5 @@
 -- A number read group by group, lowest first: `low` is what the groups so far come to, `weight` what the next one counts.
+use Rattle.std.specs.Prelude.{if◌then◌else◌}
 use mathlib.Core.Path.{◌≡◌, refl, sym, ap, ◌∙◌}
 use mathlib.Core.Bool.{Bool, true, false}
 use mathlib.Core.List.{List, []}
@@ -10,7 +11,6 @@ use native.Mathlib.Omega.{arith}
 use lib.ListN.{length, get_or, drop, drop_of_length-le}
 use lib.Seq.{drop-cons}
 use borrow.Author.Tests.{lt-ltb, le-ltb, ne_eqb}
-use Rattle.rules.specs.Basics.{if◌then◌else◌}
 use Rattle.rules.specs.Constants.{number_range}
 use Rattle.rules.specs.Reader.{and_then, pure, refuse, ◌>>=◌, more_groups, read_number}
 use Rattle.reading.specs.Fitting.{passing}

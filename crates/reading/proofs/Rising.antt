@@ -1,4 +1,5 @@
 -- A set of slots gathered from its rising list: what is in the set so far is the front of the list.
+use Rattle.std.specs.Prelude.{if◌then◌else◌}
 use mathlib.Core.Path.{◌≡◌, refl, sym, ap, ap₂, ◌∙◌}
 use mathlib.Core.Bool.{Bool, true, false, ◌&&◌, ◌||◌, or-true, or-false, and-true}
 use mathlib.Core.List.{List, [], ◌∷◌, ◌++◌, append_assoc, append-nil}
@@ -11,7 +12,7 @@ use lib.Bits.{bit_or}
 use lib.Dec.{eqb, ltb, leb}
 use lib.ListN.{length, get_or, set, drop, length-set}
 use borrow.Author.Tests.{lt-ltb, le-ltb, le-leb, lt-leb, eq-eqb, ne_eqb, ltb-true, leb-true}
-use Rattle.rules.specs.Basics.{if◌then◌else◌, keep, up_to}
+use Rattle.rules.specs.Basics.{keep, up_to}
 use Rattle.rules.specs.Constants.{slot_count}
 use Rattle.rules.specs.Reader.{Reader, and_then, pure, refuse, ◌>>=◌}
 use Rattle.rules.proofs.Lists as rules-lists

@@ -1,4 +1,5 @@
 -- A batch read record by record: each record takes at least a byte, so that there is fuel for all, and what is left after the first is read as a batch.
+use Rattle.std.specs.Prelude.{if◌then◌else◌}
 use mathlib.Core.Path.{◌≡◌, refl, sym, ap, subst, ◌∙◌}
 use mathlib.Core.Bool.{Bool, true, false, true≢false, false≢true}
 use mathlib.Core.List.{List, [], ◌∷◌}
@@ -8,7 +9,7 @@ use native.Mathlib.Omega.{arith}
 use lib.Dec.{eqb, ltb}
 use lib.ListN.{length, drop, length-drop, drop_of_length-le}
 use lib.Seq.{drop-cons}
-use Rattle.rules.specs.Basics.{if◌then◌else◌, all, case_of, given}
+use Rattle.rules.specs.Basics.{all, case_of, given}
 use Rattle.rules.specs.Constants.{id_length}
 use Rattle.rules.specs.Records.{Record, fits}
 use Rattle.rules.specs.Refusals.{is_slot_set}

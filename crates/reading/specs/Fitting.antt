@@ -1,7 +1,7 @@
 -- Records read back by the rules, and kept only if each of their numbers is of 32 bits (`fits`): no other is ever written.
-use Rattle.std.specs.Prelude.{Bool, List, ℕ}
+use Rattle.std.specs.Prelude.{Bool, List, ℕ, if◌then◌else◌}
 use Rattle.std.proofs.Math.Option.{Option, none, some}
-use Rattle.rules.specs.Basics.{if◌then◌else◌, all, case_of}
+use Rattle.rules.specs.Basics.{all, case_of}
 use Rattle.rules.specs.Records.{Record, fits}
 use Rattle.rules.specs.Reader.{Reader, pure, refuse, ◌>>=◌, read_record, read_all}
 

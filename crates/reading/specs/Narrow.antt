@@ -1,6 +1,5 @@
 -- The readers of the rules field by field, for numbers of 32 bits: `record32` reads what `read_fitting` does (proofs/Narrowing).
-use Rattle.std.specs.Prelude.{ℕ, zero, suc, ◌+◌, Bool, ◌&&◌, List, [], ◌∷◌, eqb, ltb, leb}
-use Rattle.rules.specs.Basics.{if◌then◌else◌}
+use Rattle.std.specs.Prelude.{ℕ, zero, suc, ◌+◌, Bool, ◌&&◌, List, [], ◌∷◌, eqb, ltb, leb, if◌then◌else◌}
 use Rattle.rules.specs.Constants.{id_length, slot_count, number_range}
 use Rattle.rules.specs.Records.{Record, group_epoch, topic_is, member_is, member_gone, target_epoch, target_is, current_is, current_gone}
 use Rattle.rules.specs.Reader.{Reader, pure, refuse, ◌>>=◌, byte, read_number, read_bytes}

@@ -1,7 +1,6 @@
 -- Reading at a place of the bytes.
-use Rattle.std.specs.Prelude.{ℕ, ◌≡◌, List, length, drop, leb}
+use Rattle.std.specs.Prelude.{ℕ, ◌≡◌, List, length, drop, leb, if◌then◌else◌}
 use Rattle.std.proofs.Math.Option.{Option, none}
-use Rattle.rules.specs.Basics.{if◌then◌else◌}
 use Rattle.rules.specs.Reader.{Reader, pure}
 
 -- what is read from the place `at` on; beyond the end nothing is

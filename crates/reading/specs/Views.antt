@@ -1,7 +1,7 @@
 -- What the code's values say, as numbers and records of the rules.
-use Rattle.std.specs.Prelude.{ℕ, ◌+◌, ◌*◌, ◌≤◌, ◌<◌, ◌≡◌, Bool, true, ◌&&◌, List, length, drop, eqb, ltb}
+use Rattle.std.specs.Prelude.{ℕ, ◌+◌, ◌*◌, ◌≤◌, ◌<◌, ◌≡◌, Bool, true, ◌&&◌, List, length, drop, eqb, ltb, if◌then◌else◌}
 use Rattle.std.proofs.Math.Option.{Option, none, some}
-use Rattle.rules.specs.Basics.{if◌then◌else◌, given}
+use Rattle.rules.specs.Basics.{given}
 use Rattle.rules.specs.Constants.{number_range}
 use Rattle.rules.specs.Records.{Record, group_epoch, topic_is, member_is, member_gone, target_epoch, target_is, current_is, current_gone}
 use Rattle.rules.specs.Reader.{Reader, pure, refuse}

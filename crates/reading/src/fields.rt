@@ -1,7 +1,6 @@
 // The fields of a record, each read at a place: a number in groups of seven bits, a byte, an ID, a set of slots. Where nothing is found, the place after it is
 // beyond the end of the bytes, and nothing is found there either: fields are read one after another without a test between.
-ghost use Rattle.std.specs.Prelude.{◌≡◌, ◌+◌, ◌≤◌, ◌<◌, length, take, drop, leb};
-ghost use Rattle.rules.specs.Basics.{if◌then◌else◌};
+ghost use Rattle.std.specs.Prelude.{◌≡◌, ◌+◌, ◌≤◌, ◌<◌, length, take, drop, leb, if◌then◌else◌};
 ghost use Rattle.rules.specs.Constants.{id_length, number_range, slot_count};
 ghost use Rattle.rules.specs.Reader.{byte, read_bytes};
 ghost use Rattle.slots.specs.Set.{slots_of};

@@ -1,5 +1,6 @@
 -- The bytes that the differences of a set take beyond one for each slot, word by word. Slots of one word are less than 64 apart, so that only the
 -- difference of a word's first slot can take more than one byte.
+use Rattle.std.specs.Prelude.{if◌then◌else◌}
 use mathlib.Core.Path.{◌≡◌, refl, sym, ap, ◌∙◌}
 use mathlib.Core.Bool.{Bool, true, false}
 use mathlib.Core.List.{List, [], ◌∷◌, ◌++◌, append-nil}
@@ -7,7 +8,7 @@ use Prim.Native.Nat.{ℕ, zero, suc, ◌+◌, ◌-◌, ◌*◌, ◌^◌, ◌≤�
 use native.Mathlib.Omega.{arith}
 use lib.Count.{count_trailing_zeros, count_leading_zeros, leading_top}
 use lib.ListN.{length, get_or, length-append}
-use Rattle.rules.specs.Basics.{if◌then◌else◌, keep, up_to}
+use Rattle.rules.specs.Basics.{keep, up_to}
 use Rattle.rules.specs.Records.{number, differences}
 use Rattle.rules.proofs.Number.{number_small}
 use Rattle.slots.specs.Set.{bit, has, select}

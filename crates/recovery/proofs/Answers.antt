@@ -1,11 +1,11 @@
 -- No answer that went out is missing from the history: what a failover drops was not answered.
+use Rattle.std.specs.Prelude.{if◌then◌else◌}
 use Prim.Native.Nat.{ℕ, ◌-◌}
 use mathlib.Core.Path.{◌≡◌, refl, sym, ap, ◌∙◌}
 use mathlib.Core.Bool.{Bool, true, false}
 use mathlib.Core.List.{List, [], ◌∷◌, ◌++◌, append_assoc, append-nil}
 use lib.ListN.{length, drop}
 use lib.Dec.{leb}
-use Rattle.rules.specs.Basics.{if◌then◌else◌}
 use Rattle.rules.specs.Group.{Group, fresh}
 use Rattle.rules.specs.Course.{Call}
 use Rattle.rules.specs.Readings.{Item, happens, next_group, reads}

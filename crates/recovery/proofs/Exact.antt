@@ -1,5 +1,6 @@
 -- A batch is refused exactly when no event would write it: every kind of event has its candidate, so what was written is read, and what is read was written
 -- (Judging). Every group that a reader comes to is legible, so this holds of every batch of every file.
+use Rattle.std.specs.Prelude.{if◌then◌else◌}
 use Prim.Native.Nat.{ℕ}
 use mathlib.Core.Path.{◌≡◌, refl, sym, ap, ◌∙◌, subst}
 use mathlib.Core.Bool.{false, ◌&&◌, true≢false}
@@ -7,7 +8,7 @@ use mathlib.Core.List.{List, [], ◌∷◌}
 use mathlib.Core.Option.{Option, none, some}
 use lib.ListN.{length}
 use lib.Dec.{ltb}
-use Rattle.rules.specs.Basics.{all, case_of, empty, if◌then◌else◌}
+use Rattle.rules.specs.Basics.{all, case_of, empty}
 use Rattle.rules.specs.Constants.{batch_limit}
 use Rattle.rules.specs.Group.{Group}
 use Rattle.rules.specs.Records.{Record, all_bytes, fits, placed}

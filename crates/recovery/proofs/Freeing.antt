@@ -1,5 +1,6 @@
 -- The list of an ordinary heartbeat decides one thing, whether P is freed, and what is stored tells that. If P was freed it has changed, so that a record 8 is
 -- stored; if it was not freed and not empty, A, P and E stay, so that none is. And where A and P stay, every slot does.
+use Rattle.std.specs.Prelude.{if◌then◌else◌}
 use Prim.Native.Nat.{ℕ, ◌<◌}
 use native.Mathlib.Omega.{arith}
 use mathlib.Core.Path.{◌≡◌, refl, sym, ap, ◌∙◌, subst}
@@ -11,7 +12,7 @@ use lib.ListN.{length, get_or, length-map}
 use lib.Seq.{ext_get_or}
 use lib.Dec.{eqb}
 use borrow.Author.Tests.{eq-eqb, eqb-true}
-use Rattle.rules.specs.Basics.{any, find, if◌then◌else◌, same}
+use Rattle.rules.specs.Basics.{any, find, same}
 use Rattle.rules.specs.Constants.{no_place}
 use Rattle.rules.specs.Group.{SlotState, assigned, free_slot, revoking, set_a, set_p, targeted}
 use Rattle.rules.specs.Effects.{advanced, after_free, claimed, current_of, freed, frees, moves, revoked, stray, strays, waits}

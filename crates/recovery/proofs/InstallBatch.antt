@@ -1,6 +1,7 @@
 -- The batch of an install: its records 7, laid over the target before, give the entries. Both places of a slot that changes its place have a record 7, since
 -- both sets change: so after the places below n its entry is the place after once that is passed, else none once the place before is, else the place before
 -- (`Entry`). This needs that every target is a place that there is, or none: no record 7 is written for another, and it would stay where the entry is none.
+use Rattle.std.specs.Prelude.{if◌then◌else◌}
 use Prim.Native.Nat.{ℕ, zero, suc, ◌+◌, ◌/◌, ◌≤◌, ◌<◌}
 use native.Mathlib.Nat.{add-zero, add-suc, suc-add, zero-add}
 use native.Mathlib.Omega.{arith}
@@ -14,7 +15,7 @@ use lib.ListN.{length, get_or, length-map, get_or-map}
 use lib.Seq.{ext_get_or}
 use lib.Dec.{eqb, ltb}
 use borrow.Author.Tests.{eq-eqb, eqb-true, ne_eqb}
-use Rattle.rules.specs.Basics.{any, concat_map, if◌then◌else◌, first_with, same, up_to}
+use Rattle.rules.specs.Basics.{any, concat_map, first_with, same, up_to}
 use Rattle.rules.specs.Constants.{max_members, max_partitions, no_place, slot_count}
 use Rattle.rules.specs.Group.{Group, SlotState, exists, free_slot, set_m, targeted}
 use Rattle.rules.specs.Records.{Record, parts_of, target_epoch}

@@ -6,6 +6,7 @@
 -- that is: a candidate is made from its records, at any tick t; it is typed, no row refuses it on the group so far with the tick of reading, it writes
 -- the same records, and the group that it leaves is the same, ticks aside. That its numbers are of 32 bits follows (Fits).
 -- The five kinds have it in TopicBatch, JoinBatch, OrdinaryBatch, RemovalBatch (leaves and sweeps) and InstallBatch.
+use Rattle.std.specs.Prelude.{if◌then◌else◌}
 use Prim.Native.Nat.{ℕ, zero, suc, ◌+◌, ◌≤◌}
 use native.Mathlib.Nat.{add-zero, add-suc, suc-add}
 use mathlib.Core.Path.{◌≡◌, refl, sym, ap, ◌∙◌}
@@ -16,7 +17,7 @@ use lib.IntN.{pos}
 use lib.ListN.{length, get_or}
 use lib.Dec.{eqb, ltb}
 use borrow.Author.Tests.{eqb-true, le-ltb, ltb-true}
-use Rattle.rules.specs.Basics.{all, any, case_of, default, empty, if◌then◌else◌, same}
+use Rattle.rules.specs.Basics.{all, any, case_of, default, empty, same}
 use Rattle.rules.specs.Constants.{batch_limit, id_length, subscription_count}
 use Rattle.rules.specs.Group.{Group, Member}
 use Rattle.rules.specs.Records.{CurrentAssignment, MemberMetadata, Record, all_bytes, fits, placed}

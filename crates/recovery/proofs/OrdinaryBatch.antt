@@ -1,5 +1,6 @@
 -- The batch of an ordinary heartbeat: a 5, a 3 and an 8, each perhaps. Its candidate gives the timeout and the subscription where they differ, and an empty
 -- list where a record 8 is stored. It is accepted, writes the same records and leaves the same group, ticks aside.
+use Rattle.std.specs.Prelude.{if◌then◌else◌}
 use Prim.Native.Nat.{ℕ, zero, suc, ◌≤◌}
 use native.Mathlib.Omega.{arith}
 use mathlib.Core.Path.{◌≡◌, refl, sym, ap, ◌∙◌}
@@ -10,7 +11,7 @@ use lib.IntN.{ℤ, pos, negsuc}
 use lib.ListN.{set}
 use lib.Dec.{eqb}
 use borrow.Author.Tests.{eq-eqb, eqb-true, ne_eqb}
-use Rattle.rules.specs.Basics.{default, empty, if◌then◌else◌}
+use Rattle.rules.specs.Basics.{default, empty}
 use Rattle.rules.specs.Group.{Group, Member, Sender, known, member_at, place_of}
 use Rattle.rules.specs.Records.{CurrentAssignment, MemberMetadata, parts_of}
 use Rattle.rules.specs.Event.{Request, heartbeat}

@@ -1,5 +1,6 @@
 -- The batch of a sweep: its records 5 say which places are gone, and a sweep at the tick of reading removes just these if they alone were last heard a session
 -- timeout before: all others have been heard at that tick, and no slot has been waiting since before it. A leave writes what a sweep of its place does.
+use Rattle.std.specs.Prelude.{if◌then◌else◌}
 use Prim.Native.Nat.{ℕ, zero, suc, ◌+◌, ◌≤◌, ◌<◌}
 use native.Mathlib.Nat.{zero-add}
 use native.Mathlib.Omega.{arith}
@@ -11,7 +12,7 @@ use mathlib.Core.Option.{Option, none, some}
 use lib.ListN.{get_or}
 use lib.Dec.{eqb}
 use borrow.Author.Tests.{eqb-true, eqb-false, lt-leb, ne_eqb}
-use Rattle.rules.specs.Basics.{any, concat_map, empty, if◌then◌else◌, keep, up_to}
+use Rattle.rules.specs.Basics.{any, concat_map, empty, keep, up_to}
 use Rattle.rules.specs.Constants.{max_members}
 use Rattle.rules.specs.Group.{Group, Member, SlotState, known, place_of, revoking, targeted, vacant}
 use Rattle.rules.specs.Records.{group_epoch, parts_of}

@@ -1,7 +1,7 @@
 -- Request 4, 'Our own range assignor': a target for the group as it is. It is an assignor's, not the coordinator's: it counts once it is installed.
-use Rattle.std.specs.Prelude.{ℕ, suc, ◌+◌, ◌-◌, ◌*◌, ◌/◌, ◌%◌, ◌≤◌, ◌<◌, min, ◌≡◌, ◌≢◌, ◌⊎◌, Bool, true, false, ◌&&◌, ◌||◌, List, [], ◌∷◌, ◌++◌, eqb, ltb, pos, length, get_or, replicate}
+use Rattle.std.specs.Prelude.{ℕ, suc, ◌+◌, ◌-◌, ◌*◌, ◌/◌, ◌%◌, ◌≤◌, ◌<◌, min, ◌≡◌, ◌≢◌, ◌⊎◌, Bool, true, false, ◌&&◌, ◌||◌, List, [], ◌∷◌, ◌++◌, eqb, ltb, pos, length, get_or, replicate, if◌then◌else◌}
 use Rattle.std.proofs.Math.Option.{none}
-use Rattle.rules.specs.Basics.{if◌then◌else◌, case_of, concat_map, indices, keep, up_to}
+use Rattle.rules.specs.Basics.{case_of, concat_map, indices, keep, up_to}
 use Rattle.rules.specs.Constants.{max_partitions, no_place, slot_count, topic_count}
 use Rattle.rules.specs.Group.{Group, member_at, subscribes}
 use Rattle.rules.specs.Records.{all_bytes}

@@ -1,9 +1,9 @@
 -- Request 1 of 02, 'Read the journal back': which batches are good for a group, and what reading one gives. Words in quotes are 02's.
 -- A batch is judged by the one event that can have written it: that event is made from the records, the rules are run on it, and the bytes are compared.
-use Rattle.std.specs.Prelude.{ℕ, suc, ◌+◌, ◌-◌, ◌%◌, ◌≤◌, ◌<◌, ◌≡◌, ◌≢◌, Bool, true, false, ◌&&◌, ℤ, pos, negsuc, length, get_or, eqb, leb, ltb}
+use Rattle.std.specs.Prelude.{ℕ, suc, ◌+◌, ◌-◌, ◌%◌, ◌≤◌, ◌<◌, ◌≡◌, ◌≢◌, Bool, true, false, ◌&&◌, ℤ, pos, negsuc, length, get_or, eqb, leb, ltb, if◌then◌else◌}
 use mathlib.Core.List.{List, [], ◌∷◌, foldl, map}
 use Rattle.std.proofs.Math.Option.{Option, none, some}
-use Rattle.rules.specs.Basics.{if◌then◌else◌, all, any, case_of, concat_map, default, empty, first_some, given, same, to_list}
+use Rattle.rules.specs.Basics.{all, any, case_of, concat_map, default, empty, first_some, given, same, to_list}
 use Rattle.rules.specs.Constants.{batch_limit, id_length, last_epoch, max_members, max_timeout, no_place, session_timeout, slot_count, subscription_count, tick_range}
 use Rattle.rules.specs.Group.{Group, Member, free_slot, fresh, member_at}
 use Rattle.rules.specs.Records.{CurrentAssignment, MemberMetadata, Record, TargetAssignment, TopicMetadata, all_bytes, fits, parts_of, placed}

@@ -1,7 +1,6 @@
 -- The brokers of a group, one after another, and their file, as request 1 of 02 tells it: what each has after a failover is what demand 3's history says.
-use Rattle.std.specs.Prelude.{ℕ, ◌-◌, ◌≡◌, Bool, false, List, [], ◌∷◌, ◌++◌, length, take, drop}
+use Rattle.std.specs.Prelude.{ℕ, ◌-◌, ◌≡◌, Bool, false, List, [], ◌∷◌, ◌++◌, length, take, drop, if◌then◌else◌}
 use Rattle.std.proofs.Math.Option.{some}
-use Rattle.rules.specs.Basics.{if◌then◌else◌}
 use Rattle.rules.specs.Group.{Group, fresh}
 use Rattle.rules.specs.Course.{Call, HeldByOne, Installed, Typed, stepped}
 use Rattle.rules.specs.Rounds.{Settled}

@@ -1,8 +1,8 @@
 -- A list of events: the group after it, and what is known from the events, their answers and the stored records. Demand 3's first half.
-use Rattle.std.specs.Prelude.{ℕ, ◌<◌, ◌≡◌, Bool, ℤ, pos, negsuc, length, take}
+use Rattle.std.specs.Prelude.{ℕ, ◌<◌, ◌≡◌, Bool, ℤ, pos, negsuc, length, take, if◌then◌else◌}
 use mathlib.Core.List.{List, [], ◌∷◌, foldl, Memᴰ}
 use Rattle.std.proofs.Math.Option.{Option, none, some}
-use Rattle.rules.specs.Basics.{any, default, given, if◌then◌else◌, same}
+use Rattle.rules.specs.Basics.{any, default, given, same}
 use Rattle.rules.specs.Constants.{id_length, subscription_count}
 use Rattle.rules.specs.Group.{Group}
 use Rattle.rules.specs.Records.{Record, parts_of}

@@ -1,10 +1,9 @@
 -- Demand 3 over readings (request 1 of 02): 'Demand 3's history goes on over the reading: it counts each event whose batch and all before it in the file are
 -- stored (or that wrote none after only such ones), and what was told only where the answer went out'.
 -- Here are the items of such a history, the events that count and the readings; which events count is `counted` of Journal.
-use Rattle.std.specs.Prelude.{ℕ, ◌≡◌, ◌⊎◌, Bool, true, false, not}
+use Rattle.std.specs.Prelude.{ℕ, ◌≡◌, ◌⊎◌, Bool, true, false, not, if◌then◌else◌}
 use mathlib.Core.List.{List, [], ◌∷◌, ◌++◌, foldl}
 use Rattle.std.proofs.Math.Option.{some}
-use Rattle.rules.specs.Basics.{if◌then◌else◌}
 use Rattle.rules.specs.Group.{Group}
 use Rattle.rules.specs.Ledger.{Observation, reckon}
 use Rattle.rules.specs.Course.{Call, Course, HeldByOne, History, Installed, Typed, begun, in_force_after, observe, of_sender, seen_of, stepped, subscription_after}

@@ -1,4 +1,5 @@
 -- How often a number stands in a list: one entry more.
+use Rattle.std.specs.Prelude.{if◌then◌else◌}
 use Prim.Native.Nat.{ℕ, zero, suc, ◌+◌, ◌≤◌, ◌<◌}
 use native.Mathlib.Nat.{not-suc-le-zero, le_of_suc-le-suc}
 use mathlib.Core.Path.{◌≡◌, refl, ap, ◌∙◌}
@@ -8,7 +9,6 @@ use borrow.Author.Tests.{eq-eqb, ne_eqb}
 use mathlib.Core.List.{List, [], ◌∷◌}
 use lib.Dec.{eqb}
 use lib.ListN.{length, get_or, take}
-use Rattle.rules.specs.Basics.{if◌then◌else◌}
 use Rattle.search.specs.Occurrences.{occurs}
 
 pub occurs_in : (p : ℕ) (l : List ℕ) (i d : ℕ) → i < length l → eqb (get_or l i d) p ≡ true → occurs p (take (suc i) l) ≡ suc (occurs p (take i l))

@@ -1,6 +1,5 @@
 -- How often a number stands in a list.
-use Rattle.std.specs.Prelude.{ℕ, suc, List, [], ◌∷◌, eqb}
-use Rattle.rules.specs.Basics.{if◌then◌else◌}
+use Rattle.std.specs.Prelude.{ℕ, suc, List, [], ◌∷◌, eqb, if◌then◌else◌}
 
 unfoldable pub occurs : ℕ → List ℕ → ℕ
 occurs p [] = 0

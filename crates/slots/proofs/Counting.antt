@@ -1,5 +1,6 @@
 -- The number of slots of a set, word by word. The ones of a word are the positions whose bit is set (`ones_are`), so each word has as many slots as the
 -- machine counts ones in it (`word_more`).
+use Rattle.std.specs.Prelude.{if◌then◌else◌}
 use mathlib.Core.Path.{◌≡◌, refl, sym, ap, ◌∙◌}
 use mathlib.Core.Bool.{Bool, true, false}
 use mathlib.Core.List.{List, ◌∷◌, ◌++◌}
@@ -9,7 +10,7 @@ use native.Mathlib.Omega.{arith}
 use lib.Count.{ones, ones_step}
 use lib.Dec.{eqb, lit<}
 use lib.ListN.{length, get_or, length-append}
-use Rattle.rules.specs.Basics.{if◌then◌else◌, keep, up_to}
+use Rattle.rules.specs.Basics.{keep, up_to}
 use Rattle.slots.specs.Set.{bit, has, select}
 use Rattle.slots.proofs.Bits.{bit_low, bit_suc}
 use Rattle.slots.proofs.Selecting.{select_split}

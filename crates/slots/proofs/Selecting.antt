@@ -1,5 +1,6 @@
 -- The rising list of the numbers that a test picks, by `select`: its first number, its length, which numbers it has, and that numbers that are not picked
 -- are stepped over.
+use Rattle.std.specs.Prelude.{if◌then◌else◌}
 use mathlib.Core.Path.{◌≡◌, refl, sym, ap, ◌∙◌}
 use mathlib.Core.Bool.{Bool, true, false}
 use mathlib.Core.List.{List, [], ◌∷◌, ◌++◌}
@@ -10,7 +11,7 @@ use native.Mathlib.Numerals.{add-one}
 use native.Mathlib.Omega.{arith}
 use lib.Dec.{eqb}
 use lib.ListN.{length}
-use Rattle.rules.specs.Basics.{if◌then◌else◌, any, keep, same, up_to}
+use Rattle.rules.specs.Basics.{any, keep, same, up_to}
 use Rattle.rules.specs.Constants.{slot_count}
 use Rattle.rules.proofs.Lists.{keep_ext, keep_has, same_eq}
 use Rattle.slots.specs.Set.{has, select, slots_of, NextFrom}

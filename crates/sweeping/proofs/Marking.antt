@@ -1,5 +1,6 @@
 -- A pass over the slots that marks the holder of each slot that waits: a place is marked already, or some slot that is left waits at it.
 -- And what the marks of the places that are due say of a sweep.
+use Rattle.std.specs.Prelude.{if◌then◌else◌}
 use Prim.Native.Nat.{ℕ, ◌+◌, ◌≤◌, ◌<◌}
 use native.Mathlib.Omega.{arith}
 use native.Mathlib.Decide.{ℕ_discrete}
@@ -12,7 +13,7 @@ use lib.Dec.{eqb, leb}
 use lib.ListN.{length, get_or, set, drop, replicate, get_or-replicate, drop_of_length-le}
 use lib.Seq.{drop-cons, get_or-set_same, get_or-set_other}
 use borrow.Author.Tests.{ne_eqb}
-use Rattle.rules.specs.Basics.{if◌then◌else◌, any}
+use Rattle.rules.specs.Basics.{any}
 use Rattle.rules.specs.Constants.{max_members, slot_count, session_timeout}
 use Rattle.rules.specs.Group as G
 use Rattle.rules.specs.Group.{SlotState, free_slot, revoking, targeted, elapsed}

@@ -1,4 +1,5 @@
 -- What a sweep comes to, by its one row; and its effect, by the marks of the places that go: where none is marked only the tick changes, and else G rises once.
+use Rattle.std.specs.Prelude.{if◌then◌else◌}
 use Prim.Native.Nat.{ℕ, ◌≤◌, ◌<◌}
 use native.Mathlib.Omega.{arith}
 use mathlib.Core.Path.{◌≡◌, refl, sym, ap, ◌∙◌}
@@ -8,7 +9,7 @@ use mathlib.Core.Option.{Option, none}
 use lib.Dec.{leb}
 use lib.ListN.{length, get_or, set}
 use borrow.Author.Tests.{le-ltb}
-use Rattle.rules.specs.Basics.{if◌then◌else◌, concat_map, empty, any}
+use Rattle.rules.specs.Basics.{concat_map, empty, any}
 use Rattle.rules.specs.Constants.{max_members, last_epoch}
 use Rattle.rules.specs.Group as G
 use Rattle.rules.specs.Group.{SlotState, targeted, raised}

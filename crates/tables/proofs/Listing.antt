@@ -1,5 +1,6 @@
 -- Some slot passes a test, or none does, as a test for no slot tells it. A set whose slots are those that pass a test has the list that the rules pick by that
 -- test, and is empty where no slot passes it.
+use Rattle.std.specs.Prelude.{if◌then◌else◌}
 use Prim.Native.Nat.{ℕ, zero, suc, ◌+◌, ◌≤◌, ◌<◌}
 use native.Mathlib.Decide.{ℕ_discrete}
 use native.Mathlib.Omega.{arith}
@@ -7,7 +8,7 @@ use mathlib.Core.Path.{◌≡◌, refl, sym, ap, ap₂, ◌∙◌}
 use mathlib.Core.Bool.{Bool, true, false, not, ◌||◌, true≢false}
 use mathlib.Core.List.{List, [], ◌∷◌}
 use lib.ListN.{length, get_or}
-use Rattle.rules.specs.Basics.{if◌then◌else◌, any, indices, keep, up_to}
+use Rattle.rules.specs.Basics.{any, indices, keep, up_to}
 use Rattle.rules.specs.Constants.{slot_count}
 use Rattle.rules.specs.Group.{SlotState, free_slot, assigned, revoking, set_a, set_p}
 use Rattle.slots.specs.Set.{has, select, slots_of, TellsEmpty, word_count}

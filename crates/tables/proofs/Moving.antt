@@ -1,10 +1,10 @@
 -- Steps 2 and 3 as one change of each slot (`advanced_moved`), where A or P changed.
+use Rattle.std.specs.Prelude.{if◌then◌else◌}
 use Prim.Native.Nat.{ℕ}
 use mathlib.Core.Path.{◌≡◌, refl, sym, ap, ◌∙◌}
 use mathlib.Core.Bool.{Bool, true, false, not, ◌&&◌}
 use mathlib.Core.List.{List, map}
 use mathlib.Core.Option.{Option}
-use Rattle.rules.specs.Basics.{if◌then◌else◌}
 use Rattle.rules.specs.Group.{SlotState}
 use Rattle.rules.specs.Effects.{waits, strays, advanced, frees, freed, after_free, revoked, claimed}
 use Rattle.tables.specs.Advances.{Advances}

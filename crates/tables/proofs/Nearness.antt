@@ -1,11 +1,11 @@
 -- A slot that is not near a place is in none of its sets; and the slots passed by a search that are not near it.
+use Rattle.std.specs.Prelude.{if◌then◌else◌}
 use mathlib.Core.Path.{◌≡◌, refl, ap}
 use mathlib.Core.Bool.{Bool, true, false, not, ◌&&◌}
 use Prim.Native.Nat.{ℕ, ◌+◌, ◌≤◌, ◌<◌}
 use native.Mathlib.Omega.{arith}
 use lib.Dec.{eqb}
 use lib.Bits.{bit_or, or_add_and, and_le_l, and_le_r}
-use Rattle.rules.specs.Basics.{if◌then◌else◌}
 use Rattle.rules.specs.Constants.{no_place}
 use Rattle.rules.specs.Group.{assigned, revoking, targeted}
 use Rattle.rules.proofs.Lists.{or_false}

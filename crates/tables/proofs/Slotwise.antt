@@ -1,12 +1,12 @@
 -- Steps 2 and 3 for one slot x of a place p below 255, by the place's tests of x alone. A slot of P is freed, or there is none (`z`): where x is in P it
 -- becomes nobody's, and else freeing leaves it. Then each law goes by the cases of the tests that its sides make.
+use Rattle.std.specs.Prelude.{if◌then◌else◌}
 use Prim.Native.Nat.{ℕ}
 use mathlib.Core.Path.{◌≡◌, refl, sym, ap, ap₂, ◌∙◌}
 use mathlib.Core.Bool.{Bool, true, false, not, ◌&&◌, ◌||◌, true≢false}
 use native.Mathlib.Decide.{ℕ_discrete}
 use lib.Dec.{eqb}
 use borrow.Author.Tests.{eq-eqb, ne_eqb, eqb-true}
-use Rattle.rules.specs.Basics.{if◌then◌else◌}
 use Rattle.rules.specs.Constants.{no_place}
 use Rattle.rules.specs.Group.{SlotState, assigned, revoking, targeted}
 use Rattle.rules.specs.Effects.{freed, stray, revoked, claimed}

@@ -1,5 +1,6 @@
 -- Steps 2 and 3 on the sets that were gathered for a place below 255 are those of the rules (`advances`): the tests on the sets are those of the rules
 -- (`frees_so`, `waits_so`, `strays_so`), and each slot of the sets is what `Slotwise` says of it.
+use Rattle.std.specs.Prelude.{if◌then◌else◌}
 use Prim.Native.Nat.{ℕ, ◌<◌}
 use native.Mathlib.Decide.{dec_lt}
 use native.Mathlib.Omega.{arith}
@@ -10,7 +11,7 @@ use mathlib.Core.Option.{Option, none, some}
 use lib.Dec.{eqb}
 use lib.ListN.{length, get_or, length-map, get_or-eq_default}
 use borrow.Author.Tests.{eq-eqb, ne_eqb, not-true}
-use Rattle.rules.specs.Basics.{if◌then◌else◌, any, same}
+use Rattle.rules.specs.Basics.{any, same}
 use Rattle.rules.specs.Constants.{slot_count, no_place}
 use Rattle.rules.specs.Group.{SlotState, free_slot, assigned, revoking, targeted, set_a, set_p}
 use Rattle.rules.specs.Effects.{waits, strays, advanced, frees, freed, after_free, stray, revoked, claimed}

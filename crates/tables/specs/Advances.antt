@@ -1,8 +1,8 @@
 -- What steps 2 and 3 of an ordinary heartbeat come to: on the sets of a place, as `PlaceSets::advance` decides it; and for the member at place p, as the rules
 -- say it, from the slots vs before them. Both go by the list that may be given.
-use Rattle.std.specs.Prelude.{ℕ, ◌≡◌, Bool, true, false, not, ◌&&◌, ◌||◌, List}
+use Rattle.std.specs.Prelude.{ℕ, ◌≡◌, Bool, true, false, not, ◌&&◌, ◌||◌, List, if◌then◌else◌}
 use Rattle.std.proofs.Math.Option.{Option, none, some}
-use Rattle.rules.specs.Basics.{if◌then◌else◌, any, same, up_to}
+use Rattle.rules.specs.Basics.{any, same, up_to}
 use Rattle.rules.specs.Constants.{slot_count}
 use Rattle.rules.specs.Group.{SlotState, assigned, revoking, set_a, set_p}
 use Rattle.rules.specs.Effects.{waits, frees, strays, advanced}

@@ -1,6 +1,5 @@
 -- What becomes of a slot of the tables.
-use Rattle.std.specs.Prelude.{ℕ, Bool, List, map}
-use Rattle.rules.specs.Basics.{if◌then◌else◌}
+use Rattle.std.specs.Prelude.{ℕ, Bool, List, map, if◌then◌else◌}
 use Rattle.rules.specs.Group.{SlotState}
 use Rattle.rules.specs.Effects.{freed, revoked, claimed}
 use Rattle.tables.specs.declared.changing.Entry.{Entry}

@@ -1,6 +1,5 @@
 // Changes of the tables. Only the slots that are near the place change.
-ghost use Rattle.std.specs.Prelude.{◌≡◌, map, eqb};
-ghost use Rattle.rules.specs.Basics.{if◌then◌else◌};
+ghost use Rattle.std.specs.Prelude.{◌≡◌, map, eqb, if◌then◌else◌};
 ghost use Rattle.rules.specs.Constants.{no_place};
 ghost use Rattle.rules.specs.Effects.{vacated, freed, revoked, claimed};
 ghost use Rattle.tables.specs.View.{slots_before, slots_after};

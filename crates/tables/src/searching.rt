@@ -1,7 +1,6 @@
 // The search for the slots that concern a place: those that it holds and those of its target. It steps over eight slots at a time by a test without
 // branches, so that a pass over the tables costs little where few slots are the place's.
-ghost use Rattle.std.specs.Prelude.{◌≡◌, true, ◌+◌, ◌≤◌, ◌<◌, length};
-ghost use Rattle.rules.specs.Basics.{if◌then◌else◌};
+ghost use Rattle.std.specs.Prelude.{◌≡◌, true, ◌+◌, ◌≤◌, ◌<◌, length, if◌then◌else◌};
 ghost use Rattle.rules.specs.Constants.{slot_count};
 ghost use Rattle.tables.specs.Places.{near, NoneNear, NextNear};
 

@@ -1,4 +1,5 @@
 -- What the table of refusals keeps within limits: a member's epoch, timeout and subscription, and G.
+use Rattle.std.specs.Prelude.{if◌then◌else◌}
 use Prim.Native.Nat.{ℕ, suc, ◌≤◌, ◌<◌}
 use native.Mathlib.Omega.{arith}
 use mathlib.Core.Path.{◌≡◌, refl, sym, ◌∙◌}
@@ -7,7 +8,7 @@ use mathlib.Core.Option.{Option, none, some}
 use lib.IntN.{ℤ, pos, negsuc}
 use lib.Dec.{eqb, ltb}
 use borrow.Author.Tests.{eqb-false, ltb-true, ltb-false, leb-false}
-use Rattle.rules.specs.Basics.{default, empty, given, if◌then◌else◌}
+use Rattle.rules.specs.Basics.{default, empty, given}
 use Rattle.rules.specs.Constants.{last_epoch, max_timeout, subscription_count}
 use Rattle.rules.specs.Group.{Group, Member, member_at, nobody, place_of, raised}
 use Rattle.rules.specs.Event.{Event, Request, heartbeat, install, sweep, topic}

@@ -1,4 +1,5 @@
 -- Proofs by cases: of a test, of two numbers, of what an `if` gives, of an option.
+use Rattle.std.specs.Prelude.{if◌then◌else◌}
 use Prim.Native.Nat.{ℕ}
 use native.Mathlib.Omega.{arith}
 use mathlib.Core.Path.{◌≡◌, refl, sym, ◌∙◌}
@@ -7,7 +8,6 @@ use mathlib.Core.Bool.{Bool, true, false}
 use mathlib.Core.Option.{Option, none, some}
 use lib.Dec.{eqb}
 use borrow.Author.Tests.{eqb-true, eqb-false}
-use Rattle.rules.specs.Basics.{if◌then◌else◌}
 
 module _ {A : Type 0} where
   pub by_cases : (c : Bool) → (c ≡ true → A) → (c ≡ false → A) → A

@@ -1,4 +1,5 @@
 -- What accepted joins, leaves and sweeps leave: a place with nothing, and all other places as they were.
+use Rattle.std.specs.Prelude.{if◌then◌else◌}
 use Prim.Native.Nat.{ℕ, ◌<◌}
 use native.Mathlib.Omega.{arith}
 use mathlib.Core.Path.{◌≡◌, refl, sym, ap, ◌∙◌}
@@ -10,7 +11,7 @@ use mathlib.Core.Option.{Option, none, some}
 use lib.IntN.{ℤ, pos, negsuc}
 use lib.ListN.{get_or}
 use lib.Seq.{get_or-set_same, get_or-set_other}
-use Rattle.rules.specs.Basics.{default, empty, given, if◌then◌else◌, up_to}
+use Rattle.rules.specs.Basics.{default, empty, given, up_to}
 use Rattle.rules.specs.Constants.{max_members, no_place}
 use Rattle.rules.specs.Group.{Group, Member, known, nobody, place_of, raised, vacant}
 use Rattle.rules.specs.Event.{sweep}

@@ -1,10 +1,11 @@
 -- No effect lowers G or raises it by more than one, and none lowers T where T is not above G. No ordinary heartbeat lowers E, or raises it above G.
+use Rattle.std.specs.Prelude.{if◌then◌else◌}
 use Prim.Native.Nat.{ℕ, suc, ◌≤◌}
 use native.Mathlib.Omega.{arith}
 use mathlib.Core.Bool.{Bool, true, false, ◌||◌}
 use mathlib.Core.List.{List}
 use lib.Dec.{ltb}
-use Rattle.rules.specs.Basics.{empty, if◌then◌else◌}
+use Rattle.rules.specs.Basics.{empty}
 use Rattle.rules.specs.Constants.{last_epoch}
 use Rattle.rules.specs.Group.{Group, Sender, raised}
 use Rattle.rules.specs.Event.{Event, Request, heartbeat, install, sweep, topic}

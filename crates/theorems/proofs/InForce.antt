@@ -1,5 +1,6 @@
 -- The target in force, while no record 3 was stored since its install: an event that does not raise G keeps it, and one that does stores a record 3, after
 -- which none is in force.
+use Rattle.std.specs.Prelude.{if◌then◌else◌}
 use Prim.Native.Nat.{ℕ}
 use mathlib.Core.Path.{◌≡◌, refl, sym, ap, ◌∙◌}
 use mathlib.Core.Logic.{◌⊎◌, inl, inr}
@@ -9,7 +10,7 @@ use mathlib.Core.Option.{Option, none, some}
 use lib.ListN.{length, get_or, set, take}
 use lib.Dec.{eqb}
 use borrow.Author.Tests.{eqb-true}
-use Rattle.rules.specs.Basics.{any, if◌then◌else◌}
+use Rattle.rules.specs.Basics.{any}
 use Rattle.rules.specs.Constants.{no_place, slot_count}
 use Rattle.rules.specs.Group.{Member, SlotState}
 use Rattle.rules.specs.Records.{Record, all_bytes}

@@ -1,5 +1,6 @@
 -- Request 3, 'No slot left over': what an install accepted with the rule leaves; that the first bad slot of either sort is reported; and that what passes with
 -- the rule passes without it, so that a journal is read as it was written.
+use Rattle.std.specs.Prelude.{if◌then◌else◌}
 use Prim.Native.Nat.{ℕ, ◌/◌, ◌%◌, ◌<◌}
 use native.Mathlib.Nat.{zero-add}
 use native.Mathlib.Omega.{arith}
@@ -11,7 +12,7 @@ use lib.IntN.{ℤ}
 use lib.ListN.{length, get_or, get_or-eq_default}
 use lib.Dec.{eqb, ltb}
 use borrow.Author.Tests.{eqb-true, le-ltb, ltb-false, ltb-true}
-use Rattle.rules.specs.Basics.{any, first_with, if◌then◌else◌}
+use Rattle.rules.specs.Basics.{any, first_with}
 use Rattle.rules.specs.Constants.{max_partitions, no_place, no_slot, slot_count, topic_count}
 use Rattle.rules.specs.Group.{Group, Member, below_count, exists, includes_topic, subscribes}
 use Rattle.rules.specs.Event.{install, with_rule, without_rule}

@@ -1,5 +1,6 @@
 -- `Base`: the history has each member's last answer and subscription, its epoch is at most G, and every holder is a member. Removing or setting a member,
 -- a join, an install and a reading keep it.
+use Rattle.std.specs.Prelude.{if◌then◌else◌}
 use Prim.Native.Nat.{ℕ, suc, ◌≤◌, ◌<◌}
 use native.Mathlib.Omega.{arith}
 use mathlib.Core.Path.{◌≡◌, refl, sym, ap, ◌∙◌, subst}
@@ -8,7 +9,7 @@ use mathlib.Core.List.{List, [], map}
 use mathlib.Core.Option.{Option, none, some}
 use lib.ListN.{length, get_or, set, length-map, length-set}
 use lib.Seq.{get_or-set_same, get_or-set_other}
-use Rattle.rules.specs.Basics.{if◌then◌else◌, same}
+use Rattle.rules.specs.Basics.{same}
 use Rattle.rules.specs.Constants.{max_members, no_place, slot_count}
 use Rattle.rules.specs.Group.{Member, SlotState, assigned, free_slot, set_a}
 use Rattle.rules.specs.Effects.{retargeted, vacated}

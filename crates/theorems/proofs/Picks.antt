@@ -1,4 +1,5 @@
 -- Laws of picks from a list: the first that passes, those that pass, and what the entries of a table have after one was set.
+use Rattle.std.specs.Prelude.{if◌then◌else◌}
 use Prim.Native.Nat.{ℕ, zero, suc, ◌+◌, ◌<◌, ◌≤◌, suc-le-suc}
 use native.Mathlib.Nat.{zero-lt-suc, suc_inj, suc-ne-zero, add-suc, add-zero, le_of_suc-le-suc, not-suc-le-zero, suc-add, zero-add}
 use native.Mathlib.Omega.{arith}
@@ -10,7 +11,7 @@ use mathlib.Core.Option.{Option, none, some}
 use lib.ListN.{length, get_or, set, replicate}
 use lib.Dec.{eqb}
 use borrow.Author.Tests.{eq-eqb, eqb-true}
-use Rattle.rules.specs.Basics.{any, find, first_with, if◌then◌else◌, indices, keep, up_to}
+use Rattle.rules.specs.Basics.{any, find, first_with, indices, keep, up_to}
 use Rattle.rules.proofs.Lists.{any_mem, indices_sound}
 use Rattle.theorems.proofs.Cases.{by_cases, eq_cases, if_cases, never, no_some, none_not, some_inj}
 

@@ -1,5 +1,6 @@
 -- Request 4, the range assignor: the theorems of rules/specs/Assignor. A topic's entries are its owners and then none; its owners are its subscribers in order,
 -- each as often as its share says (proofs/Sharing).
+use Rattle.std.specs.Prelude.{if◌then◌else◌}
 use Prim.Native.Nat.{ℕ, zero, suc, ◌+◌, ◌-◌, ◌*◌, ◌/◌, ◌%◌, ◌≤◌, ◌<◌, min}
 use native.Mathlib.Omega.{arith}
 use native.Mathlib.Decide.{dec_lt}
@@ -12,7 +13,7 @@ use mathlib.Core.Option.{Option, none, some}
 use lib.Dec.{ltb}
 use lib.ListN.{length, get_or, replicate, length-append, get_or-append, get_or-eq_default}
 use borrow.Author.Tests.{eq-eqb, ne_eqb, lt-ltb, le-ltb, ltb-false, ltb-true}
-use Rattle.rules.specs.Basics.{any, case_of, concat_map, first_with, if◌then◌else◌, indices, up_to}
+use Rattle.rules.specs.Basics.{any, case_of, concat_map, first_with, indices, up_to}
 use Rattle.rules.specs.Constants.{max_partitions, no_place, slot_count, topic_count}
 use Rattle.rules.specs.Group.{Group, Member, Topic, below_count, exists, subscribes}
 use Rattle.rules.specs.Records.{all_bytes}

@@ -1,5 +1,6 @@
 -- What holds between the history and the group after every list of events and readings (`RInv`): the ledger's invariant, `Base` of Members, and the target in
 -- force. Each kind of event keeps it, and a reading does.
+use Rattle.std.specs.Prelude.{if◌then◌else◌}
 use Prim.Native.Nat.{ℕ, suc, ◌≤◌, ◌<◌}
 use native.Mathlib.Omega.{arith}
 use mathlib.Core.Path.{◌≡◌, refl, sym, ap, ◌∙◌, subst}
@@ -11,7 +12,7 @@ use lib.IntN.{ℤ, pos, negsuc}
 use lib.ListN.{length, get_or, set, take, length-replicate}
 use lib.Dec.{eqb}
 use borrow.Author.Tests.{eqb-true, leb-true, le-ltb}
-use Rattle.rules.specs.Basics.{any, concat_map, default, empty, given, if◌then◌else◌, same}
+use Rattle.rules.specs.Basics.{any, concat_map, default, empty, given, same}
 use Rattle.rules.specs.Constants.{id_length, last_epoch, max_members, slot_count}
 use Rattle.rules.specs.Group.{Group, Sender, SlotState, assigned, free_slot, fresh, known, member_at, place_of, raised, revoking, set_a, set_p}
 use Rattle.rules.specs.Records.{MemberMetadata, all_bytes, current_is, group_epoch, member_is, parts_of, topic_is}

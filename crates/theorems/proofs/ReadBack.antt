@@ -1,4 +1,5 @@
 -- What was written is read back: the reader inverts the encoder on every record that is `Proper`; and so are the records of joins, leaves and sweeps.
+use Rattle.std.specs.Prelude.{if◌then◌else◌}
 use Prim.Native.Nat.{ℕ, zero, suc, ◌+◌, ◌-◌, ◌/◌, ◌%◌, ◌≤◌, ◌<◌}
 use native.Mathlib.Nat.{suc-ne-zero, suc_inj}
 use native.Mathlib.Omega.{arith}
@@ -10,7 +11,7 @@ use lib.ListN.{length, take, drop, length-append}
 use lib.Seq.{take-append_seam}
 use lib.Dec.{ltb, leb}
 use borrow.Author.Tests.{lt-ltb, le-ltb, ltb-false, ne_eqb, leb-true, le-leb}
-use Rattle.rules.specs.Basics.{all, any, concat_map, empty, indices, rising, if◌then◌else◌}
+use Rattle.rules.specs.Basics.{all, any, concat_map, empty, indices, rising}
 use Rattle.rules.specs.Constants.{id_length, slot_count}
 use Rattle.rules.specs.Group.{Group, targeted}
 use Rattle.rules.specs.Records.{MemberMetadata, Record, all_bytes, bytes_of, current_gone, current_is, differences, group_epoch, groups, member_gone, member_is, number, set_bytes, target_epoch, target_is, topic_is}

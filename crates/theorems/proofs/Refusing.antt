@@ -1,5 +1,6 @@
 -- A refusal changes nothing, and 1003 is given exactly where its own row applies and none before it does: no effect's answer is a refusal, and no other row
 -- says 1003.
+use Rattle.std.specs.Prelude.{if◌then◌else◌}
 use Prim.Native.Nat.{ℕ, ◌<◌}
 use native.Mathlib.Omega.{arith}
 use mathlib.Core.Path.{◌≡◌, refl, sym, ap, ◌∙◌}
@@ -10,7 +11,6 @@ use mathlib.Core.Option.{Option, none, some}
 use lib.ListN.{length}
 use lib.Dec.{eqb, ltb}
 use borrow.Author.Tests.{eq-eqb, lt-ltb, ltb-true}
-use Rattle.rules.specs.Basics.{if◌then◌else◌}
 use Rattle.rules.specs.Group.{Group}
 use Rattle.rules.specs.Records.{all_bytes}
 use Rattle.rules.specs.Event.{Event, Request, heartbeat, install, sweep, topic}

@@ -1,5 +1,6 @@
 -- What an accepted ordinary heartbeat leaves. Slots move to P exactly where the rules set the tick of it, and something is in P exactly where the place waits
 -- or slots moved to it.
+use Rattle.std.specs.Prelude.{if◌then◌else◌}
 use Prim.Native.Nat.{ℕ, suc, max, ◌<◌}
 use native.Mathlib.Omega.{arith}
 use mathlib.Core.Path.{◌≡◌, refl, sym, ap, ◌∙◌, subst}
@@ -12,7 +13,7 @@ use lib.ListN.{length, get_or, length-map}
 use lib.Seq.{get_or-set_same, get_or-set_other}
 use lib.Dec.{eqb}
 use borrow.Author.Tests.{eq-eqb, ne_eqb}
-use Rattle.rules.specs.Basics.{any, find, if◌then◌else◌}
+use Rattle.rules.specs.Basics.{any, find}
 use Rattle.rules.specs.Constants.{max_members, no_place}
 use Rattle.rules.specs.Group.{Group, SlotState, assigned, free_slot, known, member_at, place_of, revoking, set_a, set_m, set_p, targeted}
 use Rattle.rules.specs.Refusals.{heartbeat_table, new_subscription, new_timeout, ordinary, resubscribes, sender_of}

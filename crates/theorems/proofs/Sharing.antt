@@ -1,5 +1,6 @@
 -- Partitions shared out in runs. Of the partitions that are given, each has an owner among the subscribers (`owner_is`), whose index rises with the partition
 -- (`owner_rises`); each subscriber gets the share of its index (`share_is`).
+use Rattle.std.specs.Prelude.{if◌then◌else◌}
 use Prim.Native.Nat.{ℕ, zero, suc, ◌+◌, ◌-◌, ◌≤◌, ◌<◌}
 use native.Mathlib.Omega.{arith}
 use native.Mathlib.Decide.{dec_lt}
@@ -13,7 +14,7 @@ use lib.Dec.{eqb, ltb}
 use lib.ListN.{length, get_or, replicate, length-append, length-replicate, get_or-replicate, get_or-append}
 use lib.Seq.{get_or-append-add}
 use borrow.Author.Tests.{eq-eqb, ne_eqb, lt-ltb, le-ltb}
-use Rattle.rules.specs.Basics.{if◌then◌else◌, keep}
+use Rattle.rules.specs.Basics.{keep}
 use Rattle.rules.specs.Constants.{no_place}
 use Rattle.rules.specs.Assignor.{precedes, runs, share}
 use Rattle.ranges.proofs.Sorting.{Before, Each, Sorted, each_at, each_map, precedes_self}

@@ -1,12 +1,12 @@
 -- One slot: what the tests say of it, and what becomes of it where a place is vacated, frees, revokes or claims. A slot that a third place holds, before or
 -- after, stays with it.
+use Rattle.std.specs.Prelude.{if◌then◌else◌}
 use Prim.Native.Nat.{ℕ}
 use mathlib.Core.Path.{◌≡◌, refl, sym, ◌∙◌}
 use mathlib.Core.Logic.{◌≢◌}
 use mathlib.Core.Bool.{Bool, true, false, not, ◌&&◌, true≢false}
 use lib.Dec.{eqb}
 use borrow.Author.Tests.{eqb-true, eqb-false, eq-eqb, ne_eqb}
-use Rattle.rules.specs.Basics.{if◌then◌else◌}
 use Rattle.rules.specs.Constants.{no_place}
 use Rattle.rules.specs.Group.{SlotState, assigned, free_slot, revoking, targeted}
 use Rattle.rules.specs.Effects.{claimed, freed, revoked, stray, vacated}

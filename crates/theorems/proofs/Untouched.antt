@@ -1,4 +1,5 @@
 -- What accepted topics and installs leave, and what they leave alone; a topic with the count that it has changes nothing.
+use Rattle.std.specs.Prelude.{if◌then◌else◌}
 use Prim.Native.Nat.{ℕ, suc, ◌<◌, ◌≤◌}
 use native.Mathlib.Nat.{zero-add}
 use native.Mathlib.Omega.{arith}
@@ -12,7 +13,7 @@ use lib.ListN.{length, get_or, set, get_or-eq_default}
 use lib.Seq.{get_or-set_other, get_or-set_same, set-get_or}
 use lib.Dec.{eqb, leb, ltb}
 use borrow.Author.Tests.{eq-eqb, eqb-false, eqb-true, leb-false, ltb-false, ltb-true, ne_eqb}
-use Rattle.rules.specs.Basics.{any, first_with, if◌then◌else◌, same}
+use Rattle.rules.specs.Basics.{any, first_with, same}
 use Rattle.rules.specs.Constants.{max_partitions, no_place, slot_count, topic_count}
 use Rattle.rules.specs.Group.{Group, Topic, exists, subscribes}
 use Rattle.rules.specs.Records.{all_bytes}

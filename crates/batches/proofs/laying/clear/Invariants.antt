@@ -1,7 +1,7 @@
 -- Below i no entry is p.
+use Rattle.std.specs.Prelude.{if◌then◌else◌}
 use Prim.Native.Nat.{◌-◌, ◌≤◌}
 use lib.Dec.{eqb}
-use Rattle.rules.specs.Basics.{if◌then◌else◌}
 use Rattle.rules.specs.Constants.{no_place, slot_count}
 use Rattle.slots.proofs.Each.{Each}
 use Rattle.batches.proofs.laying.clear.Given as goal

@@ -1,8 +1,8 @@
 -- Below the step's slot the entries of the slots of the set are p; the step's slot is one of them, or the end. Those between one slot and the next stay.
+use Rattle.std.specs.Prelude.{if◌then◌else◌}
 use mathlib.Core.Path.{◌≡◌}
 use mathlib.Core.Bool.{true}
 use Prim.Native.Nat.{◌-◌, ◌≤◌, ◌<◌}
-use Rattle.rules.specs.Basics.{if◌then◌else◌}
 use Rattle.rules.specs.Constants.{slot_count}
 use Rattle.slots.specs.Set.{has}
 use Rattle.slots.specs.Walk.{Left}

@@ -1,4 +1,5 @@
 -- Each test that was passed. Assumes nothing.
+use Rattle.std.specs.Prelude.{if◌then◌else◌}
 use native.Mathlib.Omega.{arith}
 use mathlib.Core.Path.{◌≡◌, refl, sym, ap, ◌∙◌}
 use mathlib.Core.Bool.{Bool, true, false, not, true≢false}
@@ -8,7 +9,7 @@ use mir.Val.{SFits}
 use mir.Facts.{to_z-of_z}
 use borrow.Author.Rules.{rules}
 use Prim.Native.Nat.{ℕ}
-use Rattle.rules.specs.Basics.{default, if◌then◌else◌}
+use Rattle.rules.specs.Basics.{default}
 use Rattle.rules.specs.Refusals.{timeout_or}
 use Rattle.ordinary.proofs.quick.is_calm.Goals as goal
 
