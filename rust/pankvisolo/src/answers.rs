@@ -48,7 +48,7 @@ fn answered(reply: &ffi::Reply, accepted: impl Fn(&ffi::Reply) -> Answer) -> Rep
 fn refusal(number: u32, slot: u16) -> Refusal {
     match Refusal::of(number, slot) {
         Some(refusal) => refusal,
-        // The number is proved to be `numberOf` a refusal of the rules, and those are `Refusal`'s.
+        // The number is proved to be `number_of` a refusal of the rules, and those are `Refusal`'s.
         None => unreachable!("no refusal has the number {number}"),
     }
 }
