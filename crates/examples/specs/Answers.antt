@@ -11,13 +11,13 @@ abbrev refusal : ℕ → ℕ → Said
 refusal number slot = says number (pos 0) 0 0 slot
 
 -- 'Each join or ordinary answer carries E, the interval and all of A'; leave: 'The answer's epoch is -1'; sweep: 'the number removed'
-pub accepted-answers :
+pub accepted_answers :
     map said (Assigned (record { epoch = 7; interval = 5000; count = 3 }) ∷ Left ∷ Swept 4 ∷ Done ∷ [])
     ≡ says 0 (pos 7) 5000 3 65535 ∷ says 0 (negsuc 0) 0 0 65535 ∷ says 0 (pos 0) 0 4 65535 ∷ says 0 (pos 0) 0 0 65535 ∷ []
-accepted-answers = refl
+accepted_answers = refl
 
 -- the column 'Number'; 1006 reports a slot
-pub refusal-numbers :
+pub refusal_numbers :
     map said (
     Refused Clock
     ∷ Refused InvalidRequest
@@ -43,4 +43,4 @@ pub refusal-numbers :
     ∷ refusal 1002 65535
     ∷ refusal 1003 65535
     ∷ []
-refusal-numbers = refl
+refusal_numbers = refl

@@ -25,11 +25,11 @@ with topics members = group_with topics 9 2 5 members []
 
 -- Topic 0 has 7 partitions for AA*, BB* and CC*, of whom AA* is at place 1: 'the first n mod k get one more than the rest, each a run of neighbours, in order'.
 -- Topic 1 has 2 for BB*, CC* and DD*, and DD* gets none; nobody subscribes to topic 2: 'With k = 0 none are given'. DD* subscribes to topic 3 too, which there is not
-pub by-topics :
+pub by_topics :
     target (with (topic_of 0x11 7 ∷ topic_of 0x12 2 ∷ topic_of 0x13 5 ∷ []) (named bb 3 ∷ named aa 1 ∷ named cc 3 ∷ named dd 10 ∷ []))
     ≡ entries (1 ∷ 1 ∷ 1 ∷ 0 ∷ 0 ∷ 2 ∷ 2 ∷ (replicate 57 no_place ++ 0 ∷ 2 ∷ []))
 unfolding target
-by-topics = refl
+by_topics = refl
 
 -- a group without members, and one without topics
 pub nothing_to_give : target (with (topic_of 0x11 7 ∷ []) []) ≡ entries []
@@ -41,11 +41,11 @@ unfolding target
 nothing_given = refl
 
 -- 'rising order of ID bytes': the first byte in which two IDs differ decides, not the last, and the number of the byte, not its sign
-pub first-byte-first :
+pub first_byte_first :
     owners (with (topic_of 0x11 3 ∷ []) (named (0x7F ∷ replicate 15 0xFF) 1 ∷ named (0x80 ∷ replicate 15 0) 1 ∷ named (0x7F ∷ replicate 15 0xFE) 1 ∷ []))
     ≡ 2 ∷ 0 ∷ 1 ∷ []
 unfolding owners
-first-byte-first = refl
+first_byte_first = refl
 
 pub last_byte_last : owners (with (topic_of 0x11 2 ∷ []) (named (replicate 15 0xAA ++ 2 ∷ []) 1 ∷ named (replicate 15 0xAA ++ 1 ∷ []) 1 ∷ [])) ≡ 1 ∷ 0 ∷ []
 unfolding owners
