@@ -121,12 +121,18 @@ returns-in_default c =
 pub returns-then-e-epoch_at : goal.returns-then-e-epoch_at
 unfolding request_of
 returns-then-e-epoch_at c =
-    let x = c.before.before.before.before.before.before.before.before.before.before.before.before.before.before.before.before.before in
-    let a = x.args in (
-      same_refused c.refused_below-then-e-epoch_at.ensures (had x),
+    let a = c.args in
+    let lent = parts a.head.now a.members.now a.target.now a.holder.now a.waiting.now in
+    let asked = request_of a.b a.owned.now in (
+      same_refused c.refused_below-then-e-epoch_at.ensures lent,
       λ ts.
-          took_refused c.refused_below-then-e-epoch_at.ensures (group x ts) a.records.now a.list.now
-          ∙ sym (row_fenced (group x ts) (request x) a.e a.records.now a.list.now (in_time c.before.before.before.before.before.before.before.before.before ts) (well_formed c.before.before.before.before.before.before.before) (found c.before.before.before.before ts).found (who c.before.before.before.before ts) (ap (eqb a.e) (sym c.epoch_at.ensures) ∙ ne_eqb _ _ c.if-e-epoch_at.true)),
+          let g = view_parts ts lent in
+          let h : Hit (known g asked.id) (place_of g asked.id) c.in-At.p.0 = hit c.in-At.is (known_in ts lent _ _ c.find-found.ensures) in
+          let own = ap (member_at g) h.first ∙ found_member ts lent a.b.id h in
+          let sent : sender_of g asked ≡ view_sender (sender_at a.members.now c.in-At.p) = λ i. record { place = h.first i; member = own i } in
+          took_refused c.refused_below-then-e-epoch_at.ensures g a.records.now a.list.now
+          ∙ sym (row_fenced g asked a.e a.records.now a.list.now (sym (goes_back_is ts lent a.b.tick) ∙ sym c.goes_back.ensures ∙ c.if-goes_back.false)
+          (sym c.is_malformed.ensures ∙ c.if-is_malformed.false) h.found sent (ap (eqb a.e) (sym c.epoch_at.ensures) ∙ ne_eqb _ _ c.if-e-epoch_at.true)),
     )
 
 pub returns-then-is_calm : goal.returns-then-is_calm
