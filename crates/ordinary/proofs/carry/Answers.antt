@@ -51,11 +51,15 @@ group-is c ts real =
     (c.put.ensures (ap (λ (s : Seat). zero_id s.id) seat ∙ real) ∙ ap (λ (s : Seat). set (view_members a.members.now) a.p.0 (some (seated s))) seat) c.follow.ensures
 
 pub returns-then-records-size : goal.returns-then-records-size
+unfolding planned
 returns-then-records-size c = λ real.
-    let x = c.before.before.before.before.before.before.before.before.before.before.before in
-    let a = x.args in (
-      same_refused c.refused.ensures (had x),
-      λ ts. no_room_records (effect ts x) a.records.now a.list.now (view_parts ts (had x)) (omega (arith, size_is ts c.before.before.before, c.if-records-size.true)) c.refused.ensures,
+    let a = c.args in
+    let lent = parts a.head.now a.members.now a.target.now a.holder.now a.waiting.now in (
+      same_refused c.refused.ensures lent,
+      λ ts.
+          let f = planned (view_parts ts lent) a.p a.tick a.k in
+          let size : c.ordinary_records_len-size.result ≡ length (all_bytes f.records) = c.ordinary_records_len-size.ensures.0 in
+          no_room_records f a.records.now a.list.now (view_parts ts lent) (omega (arith, size, c.if-records-size.true)) c.refused.ensures,
     )
 
 pub returns-then-list-count : goal.returns-then-list-count
