@@ -1,22 +1,21 @@
 -- Brokers on this library have the group and the file of the life that they live.
 use Prim.Native.Nat.{ℕ}
-use mathlib.Core.Path.{◌≡◌, refl, sym, ap, ap₂, ◌∙◌, subst}
+use mathlib.Core.Path.{◌≡◌, refl, ap, ap₂, ◌∙◌}
 use mathlib.Core.Bool.{Bool}
 use mathlib.Core.List.{List, ◌++◌}
 use lib.ListN.{length, take}
 use lib.Seq.{take-length}
 use Rattle.rules.specs.Group as G
-use Rattle.rules.specs.Course.{Call, stepped}
-use Rattle.rules.specs.Readings.{happens}
-use Rattle.rules.specs.Journal.{Reading, Verdict, entry, read_journal, refused_at, stored_by, torn_from, whole}
-use Rattle.rules.specs.Brokers.{Life, State, acted, acts, born, cut_off, failed, fails, headed, state_of}
+use Rattle.rules.specs.Course.{stepped}
+use Rattle.rules.specs.Journal.{Verdict, entry, read_journal, refused_at, stored_by, torn_from, whole}
+use Rattle.rules.specs.Brokers.{State, acted, cut_off, failed, headed, state_of}
 use Rattle.group.specs.declared.Group.{Group}
 use Rattle.group.specs.View.{view}
 use Rattle.pankvisolo.specs.declared.Reading as Code
 use Rattle.pankvisolo.specs.Replies.{Report, Serves, replied, report_of}
 use Rattle.pankvisolo.specs.Recovery.{Recovers, good_end}
 use Rattle.pankvisolo.specs.Runs.{Exchange}
-use Rattle.pankvisolo.specs.Lives.{Follows, Hosted, LibraryContinues, made, recovered, served}
+use Rattle.pankvisolo.specs.Lives.{LibraryContinues, made, recovered, served}
 
 -- ---- an event
 

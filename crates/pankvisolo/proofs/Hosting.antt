@@ -1,7 +1,6 @@
 -- A run of the library is one of the coordinator: the numbers of a step's answer stand for that answer, since an accepted event is answered by its kind and no two
 -- refusals have the same number. So demand 3 of the coordinator is demand 3 of the library.
-use Prim.Native.Nat.{ℕ}
-use mathlib.Core.Path.{◌≡◌, refl, sym, ap, ◌∙◌, subst}
+use mathlib.Core.Path.{◌≡◌, refl, ap, ◌∙◌, subst}
 use mathlib.Core.List.{List, [], ◌∷◌, ◌++◌, map, map-append}
 use mathlib.Core.Option.{Option, none, some}
 use Rattle.rules.specs.Group as G
@@ -9,7 +8,7 @@ use Rattle.rules.specs.Event.{Event, Request, heartbeat, sweep, topic, install}
 use Rattle.rules.specs.Answers.{said}
 use Rattle.rules.specs.Refusals.{Kind, joins, leaves, invalid, ordinary, kind_of}
 use Rattle.rules.specs.Effects.{effect, heartbeat_effect, join_effect, join_at, leave_effect, leave_at, ordinary_at, sweep_effect, sweep_of, topic_effect, install_effect}
-use Rattle.rules.specs.Step.{Stepped, step, carry_out, verdict}
+use Rattle.rules.specs.Step.{step, carry_out, verdict}
 use Rattle.rules.specs.Course.{stepped}
 use Rattle.rules.specs.declared.Refusal.{Refusal}
 use Rattle.rules.specs.declared.Refusal.TheVariants.{Clock, InvalidRequest, UnknownMemberId, GroupMaxSizeReached, FencedMemberEpoch, BadTarget, Stale, Already, BadTopic, EpochEnd, Room}

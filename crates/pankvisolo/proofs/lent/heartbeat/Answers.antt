@@ -1,5 +1,4 @@
 -- What was lent on is a part of the group, and the topics are the rest of it: what the coordinator ensures of every rest is what is asked of this one (`serves`).
-use borrow.Author.Rules.{rules}
 use Rattle.group.specs.View.{view_topics}
 use Rattle.group.specs.Parts.{view_parts}
 use Rattle.judging.proofs.Resting.{with_topics, view_topics_lem}

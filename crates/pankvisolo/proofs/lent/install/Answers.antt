@@ -1,5 +1,4 @@
 -- As for a heartbeat: what was lent on is all but the IDs of topics and who holds what. `whole` tells how long the tables are; the epoch goes on as its bits.
-use borrow.Author.Rules.{rules}
 use mathlib.Core.Path.{ap}
 use lib.IntN.{ℤ}
 use mir.Facts.{to_z-of_z}

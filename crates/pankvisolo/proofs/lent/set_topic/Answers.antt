@@ -1,5 +1,4 @@
 -- As for a heartbeat: what was lent on is all but the tables.
-use borrow.Author.Rules.{rules}
 use Rattle.group.specs.Parts.{view_topic_parts}
 use Rattle.judging.proofs.Resting.{with_tables, view_tables}
 use Rattle.pankvisolo.proofs.Answering.{serves}

@@ -1,5 +1,4 @@
 -- As for a heartbeat: what was lent on is all but the topics.
-use borrow.Author.Rules.{rules}
 use Rattle.group.specs.View.{view_topics}
 use Rattle.group.specs.Parts.{view_parts}
 use Rattle.judging.proofs.Resting.{with_topics, view_topics_lem}

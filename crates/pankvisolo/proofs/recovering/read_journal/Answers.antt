@@ -1,7 +1,5 @@
-use Prim.Native.Nat.{ℕ}
 use mathlib.Core.Path.{ap, ◌∙◌}
 use lib.ListN.{length}
-use borrow.Author.Rules.{rules}
 use Rattle.rules.specs.Journal.{Reading}
 use Rattle.journal.specs.Readings.{reading_as}
 use Rattle.pankvisolo.specs.Recovery.{good_end, verdict_number}
