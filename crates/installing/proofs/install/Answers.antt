@@ -1,14 +1,14 @@
 -- At each return the tests that led there say which row of the table applies, or that none does.
 use native.Mathlib.Omega.{arith}
 use mathlib.Core.Path.{◌≡◌, refl, sym, ap, ◌∙◌}
-use mathlib.Core.Bool.{true, false}
+use mathlib.Core.Bool.{true}
 use lib.Dec.{eqb}
 use lib.IntN.{ℤ}
 use lib.ListN.{length, get_or}
 use mir.Facts.{to_z-of_z}
 use borrow.Author.Tests.{eq-eqb, ne_eqb}
 use Rattle.rules.specs.Constants.{slot_count}
-use Rattle.rules.specs.Refusals.{is_epoch, first_bad}
+use Rattle.rules.specs.Refusals.{is_epoch}
 use Rattle.rules.proofs.Lists.{not_is_false, not_is_true}
 use Rattle.group.specs.View.{view_with}
 use Rattle.group.specs.Parts.{TargetParts, Holding, view_target_parts}
@@ -35,14 +35,6 @@ told c h = let s = c in c.is_epoch.ensures ∙ ap (λ (z : ℤ). is_epoch z (get
 
 current : (c : (lts.Else2 tie.the-claims reads.Pre reads.Post)) (h : Holding) → let s = c.before.before.before.before.before.before.before.before in is_epoch s.args.epoch (view_target_parts h (had s)).epoch ≡ true
 current c h = sym (told c.before h) ∙ not_is_false _ c.if-not-is_epoch.false-raw
-
-pending : (c : (lts.Else3 tie.the-claims reads.Pre reads.Post)) (h : Holding) → let g = view_target_parts h (had c.before.before.before.before.before.before.before.before.before.before) in eqb g.target_epoch g.epoch ≡ false
-unfolding view_target_parts view_with
-pending c h = ne_eqb _ _ c.if-head-current.false
-
-bad_is : (c : (lts.After-first_bad tie.the-claims reads.Pre reads.Post)) (h : Holding) → c.first_bad-bad.result ≡ first_bad c.args.rule (view_target_parts h (had c.before.before.before.before.before.before.before.before.before.before.before)) c.args.entries.now
-unfolding view_target_parts view_with
-bad_is c h = c.first_bad-bad.ensures (view_target_parts h (had c.before.before.before.before.before.before.before.before.before.before.before)) h.ids refl refl
 
 pub returns-then-entries-ne-SLOTS : goal.returns-then-entries-ne-SLOTS
 returns-then-entries-ne-SLOTS c =
@@ -90,30 +82,32 @@ returns-then-head-current c =
     )
 
 pub returns-then-bad-lt-SLOTS : goal.returns-then-bad-lt-SLOTS
+unfolding view_target_parts view_with
 returns-then-bad-lt-SLOTS c =
-    let s = c.before.before.before.before.before.before.before.before.before.before.before.before.before.before in
-    let a = s.args in
+    let a = c.args in
+    let p : TargetParts = record { head = a.head.now; members = a.members.now; counts = a.topic_counts.now; target = a.target.now } in
     let e = c.refused-then-bad-lt-SLOTS.ensures in
     λ l. (
-      same_refused e (had s),
+      same_refused e p,
       λ h.
-          let g = view_target_parts h (had s) in
+          let g = view_target_parts h p in
           took_refused e g a.records.now l
-          ∙ sym (install_bad g a.rule a.epoch a.entries.now a.records.now l (whole c.before.before.before.before.before.before.before.before.before.before) (current c.before.before.before.before.before.before h) (pending c.before.before.before.before h) (bad_is c.before.before.before h) c.if-bad-lt-SLOTS.true),
+          ∙ sym (install_bad g a.rule a.epoch a.entries.now a.records.now l (eq-eqb _ _ c.if-entries-ne-SLOTS.false) (sym (c.is_epoch.ensures ∙ ap (λ (z : ℤ). is_epoch z (get_or a.head.now 0 0)) (to_z-of_z c.ranges.epoch)) ∙ not_is_false _ c.if-not-is_epoch.false-raw) (ne_eqb _ _ c.if-head-current.false) (c.first_bad-bad.ensures g h.ids refl refl) c.if-bad-lt-SLOTS.true),
     )
 
 pub install_at-requires : goal.install_at-requires
 install_at-requires c = c.if-entries-ne-SLOTS.false
 
 pub returns : goal.returns
+unfolding view_target_parts view_with
 returns c =
-    let s = c.before.before.before.before.before.before.before.before.before.before.before.before.before.before.before.before.before.before.before in
-    let a = s.args in
+    let a = c.args in
+    let p : TargetParts = record { head = a.head.now; members = a.members.now; counts = a.topic_counts.now; target = a.target.now } in
     let e = c.install_at.ensures in
     λ l. (
       (e l).0,
       λ h.
-          let g = view_target_parts h (had s) in
+          let g = view_target_parts h p in
           (e l).1 h
-          ∙ sym (install_step g a.rule a.epoch a.entries.now a.records.now l (whole c.before.before.before.before.before.before.before.before.before.before.before.before.before.before.before) (current c.before.before.before.before.before.before.before.before.before.before.before h) (pending c.before.before.before.before.before.before.before.before.before h) (bad_is c.before.before.before.before.before.before.before.before h) c.if-bad-lt-SLOTS.false),
+          ∙ sym (install_step g a.rule a.epoch a.entries.now a.records.now l (eq-eqb _ _ c.if-entries-ne-SLOTS.false) (sym (c.is_epoch.ensures ∙ ap (λ (z : ℤ). is_epoch z (get_or a.head.now 0 0)) (to_z-of_z c.ranges.epoch)) ∙ not_is_false _ c.if-not-is_epoch.false-raw) (ne_eqb _ _ c.if-head-current.false) (c.first_bad-bad.ensures g h.ids refl refl) c.if-bad-lt-SLOTS.false),
     )
