@@ -1,12 +1,11 @@
 -- What is written is the rules' target. The places in order, of which those that subscribe are kept, are the subscribers in order (`subscribers_are`): so are the
 -- entries of each topic (`entries_are`) and of all (`all_are`). Then the entries one topic after another. Assumes nothing.
-use Rattle.std.specs.Prelude.{if◌then◌else◌}
 use Prim.Native.Nat.{ℕ, zero, suc, ◌+◌, ◌-◌, ◌*◌, ◌≤◌, ◌<◌, min}
 use native.Mathlib.Nat.{zero-add}
 use native.Mathlib.Numerals.{add-one}
 use native.Mathlib.Omega.{arith}
 use mathlib.Core.Path.{◌≡◌, refl, sym, ap, ap₂, ◌∙◌}
-use mathlib.Core.Bool.{Bool, true, false, false≢true}
+use mathlib.Core.Bool.{true, false, false≢true}
 use mathlib.Core.List.{List, [], ◌∷◌, ◌++◌, append-nil, map}
 use mathlib.Core.Option.{Option, none, some}
 use lib.Dec.{eqb}
@@ -15,22 +14,23 @@ use borrow.Author.Tests.{ne_eqb}
 use Rattle.rules.specs.Basics.{case_of, concat_map, default, indices, keep, up_to}
 use Rattle.rules.specs.Constants.{max_members, max_partitions, slot_count, topic_count}
 use Rattle.rules.specs.Group as G
-use Rattle.rules.specs.Group.{includes_topic, member_at, nobody, subscribes}
+use Rattle.rules.specs.Group.{includes_topic, member_at, nobody, subscribes, vacant}
 use Rattle.rules.specs.Step.{overlay}
 use Rattle.rules.specs.Assignor.{id_at, owners_of, partitions_of, precedes, range_target, runs, sort_by, subscribers_of, topic_target}
 use Rattle.rules.proofs.Lists.{Listed}
-use Rattle.ranges.proofs.Sorting.{each_map, indices_keep, indices_pass, keep_sort, sort_same, up_rising}
+use Rattle.ranges.proofs.Sorting.{Each, each_map, indices_keep, indices_pass, keep_sort, sort_same, up_rising}
 use Rattle.ranges.proofs.Runs.{padded_long, runs_most}
 use Rattle.numbers.specs.Buffer.{Wrote}
-use Rattle.group.specs.declared.Seat.{Seat}
-use Rattle.group.specs.Columns.{seat_at, view_members}
+use Rattle.group.specs.declared.Group.{Group}
+use Rattle.group.specs.Columns.{numbers_at, view_members}
 use Rattle.group.specs.Entries.{subscription_of}
 use Rattle.group.specs.Topics.{topic_of}
 use Rattle.group.specs.Topics as T
-use Rattle.group.specs.View.{seated, view_seat, view_topics}
-use Rattle.group.proofs.Columns.{members_long, seat_is}
+use Rattle.group.specs.View.{view, view_topic, view_topics}
+use Rattle.group.proofs.Columns.{members_long}
 use Rattle.group.proofs.Installing.{subscribes_is, subscriptions_at}
-use Rattle.group.proofs.Numbering.{topic_at}
+use Rattle.group.proofs.PlaceTests.{somebody}
+use Rattle.group.proofs.Putting.{made_at}
 use Rattle.assignor.specs.Keys.{half_length, half_of, HalvesOf, key_in}
 use Rattle.assignor.specs.Shares.{all_entries, among, entries_of}
 use Rattle.assignor.proofs.Numbering.{key_precedes}
@@ -38,28 +38,32 @@ use Rattle.assignor.proofs.Ordering.{sort_alike, up_below}
 
 -- ---- of a group
 
--- a member that subscribes to something has the ID of its seat
-own_id : (t : ℕ) (s : Seat) → subscribes t (view_seat s) ≡ true → s.id ≡ (default nobody (view_seat s)).id
-unfolding view_seat subscribes
-own_id t s h = go s.used (seated s) h
-  where
-    go : (u : Bool) (m : G.Member) → subscribes t (if u then some m else none) ≡ true → m.id ≡ (default nobody (if u then some m else none)).id
-    go true m e = refl
-    go false m e = absurd (false≢true e)
+-- a member that subscribes to something is there
+there : (t : ℕ) (m : Option G.Member) → subscribes t m ≡ true → vacant m ≡ false
+unfolding vacant subscribes
+there t none e = absurd (false≢true e)
+there t (some m) e = refl
 
 count_of : (id : List ℕ) (k : ℕ) → min k max_partitions ≡ case_of (topic_of id k) 0 (λ (x : G.Topic). min x.count max_partitions)
 unfolding topic_of
 count_of id zero = refl
 count_of id (suc k) = let z : eqb (suc k) 0 ≡ false = ne_eqb (suc k) 0 (λ q. omega (arith, q)) in rw z
 
-all_same : (f h : ℕ → List ℕ) → ((t : ℕ) → f t ≡ h t) → (l : List ℕ) → concat_map f l ≡ concat_map h l
-all_same f h e [] = refl
-all_same f h e (t ∷ ts) = ap₂ (λ (x y : List ℕ). x ++ y) (e t) (all_same f h e ts)
+topic_here : (ids cs : List ℕ) (t : ℕ) → t < topic_count → get_or (view_topics ids cs) t none ≡ topic_of (T.id_at ids t) (get_or cs t 0)
+unfolding view_topics view_topic topic_of
+topic_here ids cs t h = made_at (view_topic ids cs) none 0 topic_count t h ∙ ap (view_topic ids cs) (zero-add t)
 
-module _ (g : G.Group) (ids cs : List ℕ) (n : length cs ≡ topic_count) (topics : g.topics ≡ view_topics ids cs)
-    (ms : List ℕ) (members : g.members ≡ view_members ms) (high low : List ℕ) (first : HalvesOf ms 0 high) (second : HalvesOf ms half_length low) where
+all_same : (f h : ℕ → List ℕ) (P : ℕ → Type 0) → ((t : ℕ) → P t → f t ≡ h t) → (l : List ℕ) → Each P l → concat_map f l ≡ concat_map h l
+all_same f h P e [] a = refl
+all_same f h P e (t ∷ ts) a = ap₂ (λ (x y : List ℕ). x ++ y) (e t a.0) (all_same f h P e ts a.1)
+
+module _ (g : Group) (high low : List ℕ) (first : HalvesOf g.members.cells 0 high)
+    (second : HalvesOf g.members.cells half_length low) where
+  abbrev ms : List ℕ
+  ms = g.members.cells
+
   abbrev named : ℕ → List ℕ
-  named p = (seat_at ms p).id
+  named p = (numbers_at ms p).id
 
   abbrev order : List ℕ
   order = sort_by (key_in high low) (up_to 0 max_members)
@@ -71,20 +75,18 @@ module _ (g : G.Group) (ids cs : List ℕ) (n : length cs ≡ topic_count) (topi
   unfolding key_in
   key_at p h = ap₂ (λ (x y : ℕ). x ∷ y ∷ []) (first.same p h) (second.same p h)
 
-  by_id : sort_by (key_in high low) (up_to 0 max_members) ≡ sort_by named (up_to 0 max_members)
+  by_id : order ≡ sort_by named (up_to 0 max_members)
   by_id =
       sort_alike (key_in high low) named (λ p. p < max_members)
       (λ p q h k. ap₂ precedes (key_at p h) (key_at q k) ∙ key_precedes (named p) (named q) (first.named p h) (first.named q k))
       (up_to 0 max_members) (up_below 0 max_members)
 
-  id_is : (t q : ℕ) → Listed (subscribes t) (view_members ms) 0 none q → named q ≡ id_at g q
-  unfolding id_at member_at
+  id_is : (t q : ℕ) → Listed (subscribes t) (view_members ms) 0 none q → named q ≡ id_at (view g) q
+  unfolding view id_at member_at
   id_is t q h =
       let e : q ≡ h.0 = h.1 ∙ zero-add h.0 in
-      let s : subscribes t (view_seat (seat_at ms q)) ≡ true = ap (subscribes t) (seat_is ms q ∙ ap (λ (k : ℕ). get_or (view_members ms) k none) e) ∙ h.3 in
-      own_id t (seat_at ms q) s
-      ∙ ap (λ (m : Option G.Member). (default nobody m).id) (seat_is ms q)
-      ∙ ap (λ (l : List (Option G.Member)). (default nobody (get_or l q none)).id) (sym members)
+      let s : subscribes t (get_or (view_members ms) q none) ≡ true = ap (λ (k : ℕ). subscribes t (get_or (view_members ms) k none)) e ∙ h.3 in
+      ap (λ (m : Option G.Member). (default nobody m).id) (sym (somebody ms q (there t _ s)))
 
   kept : (t : ℕ) → keep (λ p. includes_topic t (get_or subscriptions p 0)) (up_to 0 max_members) ≡ indices (subscribes t) 0 (view_members ms)
   kept t =
@@ -93,30 +95,28 @@ module _ (g : G.Group) (ids cs : List ℕ) (n : length cs ≡ topic_count) (topi
       (λ k l. ap (λ (p : ℕ). includes_topic t (get_or subscriptions p 0)) (zero-add k) ∙ ap (includes_topic t) (subscriptions_at (view_members ms) k)
       ∙ sym (subscribes_is t (get_or (view_members ms) k none)))
 
-  subscribers_are : (t : ℕ) → among order subscriptions t ≡ subscribers_of g t
-  unfolding among subscribers_of
+  subscribers_are : (t : ℕ) → among order subscriptions t ≡ subscribers_of (view g) t
+  unfolding view among subscribers_of
   subscribers_are t =
       ap (keep (λ p. includes_topic t (get_or subscriptions p 0))) by_id
       ∙ keep_sort named (λ p. includes_topic t (get_or subscriptions p 0)) (up_to 0 max_members) (up_rising 0 max_members)
       ∙ ap (sort_by named) (kept t)
-      ∙ sort_same named (id_at g) (indices (subscribes t) 0 (view_members ms))
+      ∙ sort_same named (id_at (view g)) (indices (subscribes t) 0 (view_members ms))
       (each_map (id_is t) (indices (subscribes t) 0 (view_members ms)) (indices_pass (subscribes t) none 0 (view_members ms)))
-      ∙ ap (λ (l : List (Option G.Member)). sort_by (id_at g) (indices (subscribes t) 0 l)) (sym members)
 
-  partitions_are : (t : ℕ) → min (get_or cs t 0) max_partitions ≡ partitions_of g t
-  unfolding partitions_of
-  partitions_are t =
-      count_of (T.id_at ids t) (get_or cs t 0)
-      ∙ ap (λ (x : Option G.Topic). case_of x 0 (λ (k : G.Topic). min k.count max_partitions))
-      (sym (ap (λ (l : List (Option G.Topic)). get_or l t none) topics ∙ topic_at ids cs t n))
+  partitions_are : (t : ℕ) → t < topic_count → min (get_or g.topics.counts t 0) max_partitions ≡ partitions_of (view g) t
+  unfolding view partitions_of
+  partitions_are t h =
+      count_of (T.id_at g.topics.ids t) (get_or g.topics.counts t 0)
+      ∙ ap (λ (x : Option G.Topic). case_of x 0 (λ (k : G.Topic). min k.count max_partitions)) (sym (topic_here g.topics.ids g.topics.counts t h))
 
-  entries_are : (t : ℕ) → entries_of order subscriptions cs t ≡ topic_target g t
+  entries_are : (t : ℕ) → t < topic_count → entries_of order subscriptions g.topics.counts t ≡ topic_target (view g) t
   unfolding entries_of topic_target owners_of
-  entries_are t = rw (subscribers_are t, partitions_are t)
+  entries_are t h = rw (subscribers_are t, partitions_are t h)
 
-  pub all_are : all_entries (sort_by (key_in high low) (up_to 0 max_members)) (map subscription_of (view_members ms)) cs ≡ range_target g
+  pub all_are : all_entries (sort_by (key_in high low) (up_to 0 max_members)) (map subscription_of (view_members ms)) g.topics.counts ≡ range_target (view g)
   unfolding all_entries range_target
-  all_are = all_same (entries_of order subscriptions cs) (topic_target g) entries_are (up_to 0 topic_count)
+  all_are = all_same (entries_of order subscriptions g.topics.counts) (topic_target (view g)) (λ t. t < topic_count) entries_are (up_to 0 topic_count) (up_below 0 topic_count)
 
 -- ---- one topic after another
 

@@ -1,22 +1,20 @@
 // The range assignor: a target from the group's own members. Each topic's partitions go to its subscribers in runs of neighbours, in rising order of the
 // subscribers' IDs. The places are sorted once, by their IDs as numbers; each topic then takes one pass over them.
-// An array taken as a slice has no code: it tells the prover the array's length.
 #![tactic(auto)]
 
-ghost use Rattle.std.specs.Prelude.{◌≡◌, List, ℕ, suc, ◌≤◌, ◌<◌, ◌+◌, min, ltb, length, replicate, if◌then◌else◌};
+ghost use Rattle.std.specs.Prelude.{◌≡◌, suc, ◌≤◌, ◌<◌, min, ltb, length, replicate, if◌then◌else◌};
 ghost use Rattle.rules.specs.Constants.{max_partitions, slot_count, topic_count};
-ghost use Rattle.rules.specs.Group.{Group};
 ghost use Rattle.rules.specs.Assignor.{padded, range_target, runs};
-ghost use Rattle.numbers.specs.Buffer.{Wrote, WroteAt};
-ghost use Rattle.group.specs.Columns.{view_members};
-ghost use Rattle.group.specs.View.{view_topics};
+ghost use Rattle.numbers.specs.Buffer.{Wrote};
+ghost use Rattle.group.specs.View.{view};
 ghost use Rattle.assignor.specs.Keys.{Places};
 ghost use Rattle.assignor.specs.Shares.{among, all_entries, Lists};
 
 mod keys; // keys.rt: the ID at each place as two numbers
 mod order; // order.rt: the places in rising order of ID
 
-use group::CELLS;
+use group::Group;
+use keys::Keys;
 use rules::{MEMBERS, NO_PLACE, PARTITIONS, SLOTS, TOPICS};
 
 // Writes an entry so many times at the start of `out`, and returns how many.
@@ -24,20 +22,8 @@ fn put_times(out: &mut [u8], count: usize, entry: u8) -> usize
     requires { count ≤ length out.old }
     ensures { Wrote (replicate count entry) out.old out.new result }
 {
-    let mut at: usize = 0;
-    while at < count {
-        out[at] = entry;
-        at += 1;
-    }
-    at
-}
-
-// The same at the place `at`; returns the place after them.
-fn put_times_at(out: &mut [u8], at: usize, count: usize, entry: u8) -> usize
-    requires { at + count ≤ length out.old }
-    ensures { WroteAt (replicate count entry) at out.old out.new result }
-{
-    at + put_times(&mut out[at..], count, entry)
+    out[..count].fill(entry);
+    count
 }
 
 // How many partitions go to the subscriber that comes after i others: the first get one more than the rest.
@@ -63,12 +49,8 @@ fn put_runs(out: &mut [u8], subscribers: &[u8], n: usize) -> usize
     let each = n / k;
     let more = n % k;
     let mut at: usize = 0;
-    let mut i: usize = 0;
-    while i < k {
-        let p = subscribers[i];
-        let size = share_of(each, more, i);
-        at = put_times_at(out, at, size, p);
-        i += 1;
+    for (i, p) in subscribers.iter().enumerate() {
+        at += put_times(&mut out[at..], share_of(each, more, i), *p);
     }
     at
 }
@@ -79,29 +61,23 @@ fn put_topic(out: &mut [u8], subscribers: &[u8], n: usize) -> usize
     ensures { Wrote (padded (runs n (length subscribers.now) 0 subscribers.now)) out.old out.new result }
 {
     let at = put_runs(out, subscribers, n);
-    put_times_at(out, at, PARTITIONS - at, NO_PLACE)
+    at + put_times(&mut out[at..], PARTITIONS - at, NO_PLACE)
 }
 
 // Lists those of the places that subscribe to a topic, in their order, and returns how many. Each is stored, and the next is stored over one that does not.
-fn list_subscribers<'a>(
+fn list_subscribers(
     list: &mut [u8; MEMBERS],
-    order: &'a [u8; MEMBERS],
-    subscriptions: &'a [u16; MEMBERS],
+    order: &[u8; MEMBERS],
+    subscriptions: &[u16; MEMBERS],
     topic: usize,
 ) -> usize
     requires { Places order.now × (topic < topic_count) }
     ensures { Lists (among order.now subscriptions.now topic) list.new result }
 {
-    let room: &[u8] = list;
-    let all: &[u8] = order;
     let mut n: usize = 0;
-    let mut i: usize = 0;
-    while i < MEMBERS {
-        let p = order[i];
-        let subscription = subscriptions[p as usize];
-        list[n] = p;
-        n += ((subscription >> topic) % 2) as usize;
-        i += 1;
+    for p in order.iter() {
+        list[n] = *p;
+        n += ((subscriptions[*p as usize] >> topic) % 2) as usize;
     }
     n
 }
@@ -110,46 +86,34 @@ fn list_subscribers<'a>(
 fn partitions_of(count: u8) -> usize
     ensures { result ≡ min count max_partitions }
 {
-    let n = count as usize;
-    if n < PARTITIONS {
-        return n;
-    }
-    PARTITIONS
+    (count as usize).min(PARTITIONS)
 }
 
 // Writes the entries of all topics, one after another.
-fn put_topics<'a>(
+fn put_topics(
     out: &mut [u8],
-    order: &'a [u8; MEMBERS],
-    subscriptions: &'a [u16; MEMBERS],
-    counts: &'a [u8; TOPICS],
+    order: &[u8; MEMBERS],
+    subscriptions: &[u16; MEMBERS],
+    counts: &[u8; TOPICS],
 )
     requires { Places order.now × (length out.old ≡ slot_count) }
     ensures { out.new ≡ all_entries order.now subscriptions.now counts.now }
 {
     let mut list = [0u8; MEMBERS];
     let mut at: usize = 0;
-    let mut t: usize = 0;
-    while t < TOPICS {
+    for (t, count) in counts.iter().enumerate() {
         let k = list_subscribers(&mut list, order, subscriptions, t);
-        let n = partitions_of(counts[t]);
+        let n = partitions_of(*count);
         at += put_topic(&mut out[at..], &list[..k], n);
-        t += 1;
     }
 }
 
 // For each slot the place that it goes to, or 255 for none.
-pub fn range_target<'a>(
-    members: &'a [u32; CELLS],
-    counts: &'a [u8; TOPICS],
-    entries: &mut [u8; SLOTS],
-)
-    ensures { (g : Group) (ids : List ℕ) → g.topics ≡ view_topics ids counts.now → g.members ≡ view_members members.now → entries.new ≡ range_target g }
+pub fn range_target(group: &Group, entries: &mut [u8; SLOTS])
+    ensures { entries.new ≡ range_target (view group.now) }
 {
-    let all: &[u8] = counts;
-    let high = keys::first_halves(members);
-    let low = keys::last_halves(members);
-    let order = order::sorted(&high, &low);
-    let subscriptions = group::entries::subscriptions_of(members);
-    put_topics(entries, &order, &subscriptions, counts);
+    let keys = Keys::of(&group.members);
+    let order = order::sorted(&keys);
+    let subscriptions = group.members.subscriptions();
+    put_topics(entries, &order, &subscriptions, &group.topics.counts);
 }

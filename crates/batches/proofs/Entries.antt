@@ -1,36 +1,75 @@
 -- A record 7 laid over a target, in two passes: no entry is its place, then the entries of its slots are.
 use Rattle.std.specs.Prelude.{if◌then◌else◌}
-use mathlib.Core.Path.{◌≡◌, refl, sym, ap, ap₂, ◌∙◌}
-use mathlib.Core.Bool.{Bool}
-use mathlib.Core.List.{List, [], ◌∷◌}
-use Prim.Native.Nat.{ℕ, zero, suc, ◌+◌, ◌≤◌, ◌<◌}
+use mathlib.Core.Path.{◌≡◌, refl, sym, ap, ◌∙◌}
+use mathlib.Core.Bool.{Bool, true, false, ◌||◌, or-true, or-false}
+use mathlib.Core.List.{List, [], ◌∷◌, ◌++◌, append-nil, append_assoc}
+use Prim.Native.Nat.{ℕ, zero, suc, ◌+◌, ◌<◌}
 use native.Mathlib.Nat.{zero-add, add-zero, add-suc, suc-add}
-use native.Mathlib.Decide.{dec_lt}
+use native.Mathlib.Decide.{ℕ_discrete}
 use native.Mathlib.Omega.{arith}
 use lib.Dec.{eqb}
-use lib.ListN.{length, get_or}
-use lib.Seq.{ext_get_or}
-use Rattle.rules.specs.Basics.{any}
+use lib.ListN.{length, get_or, set, length-set}
+use lib.Seq.{ext_get_or, get_or-set_same, get_or-set_other}
+use borrow.Author.Tests.{eq-eqb, ne_eqb}
+use Rattle.rules.specs.Basics.{any, keep, up_to}
 use Rattle.rules.specs.Constants.{no_place, slot_count}
 use Rattle.rules.specs.Batches.{laid}
 use Rattle.slots.specs.Set.{has, slots_of}
-use Rattle.slots.proofs.Selecting.{slots_have}
-use Rattle.slots.proofs.Each.{Each}
 use Rattle.batches.specs.Laying.{Replaces}
+use Rattle.batches.proofs.Lists.{any_append}
 
--- ---- a pass
+-- ---- the second pass
 
--- entries that f leaves as they are are stepped over
-pub each_skip : {f : ℕ → ℕ → ℕ} {l₀ l : List ℕ} {i : ℕ} (j : ℕ) → i ≤ j → ((k : ℕ) → i ≤ k → k < j → f k (get_or l₀ k 0) ≡ get_or l₀ k 0)
-    → Each f l₀ l i → Each f l₀ l j
-each_skip {f} {l₀} {l} {i} j h z e = record { len = e.len; done = λ k q. go k q (dec_lt k i); left = λ k q. e.left k (omega arith) }
+-- what is kept of n numbers from b on is one of them
+kept_below : (f : ℕ → Bool) (b n x : ℕ) → any (eqb x) (keep f (up_to b n)) ≡ true → x < b + n
+unfolding keep up_to
+kept_below f b zero x e = cc
+kept_below f b (suc n) x e = go (f b) (ℕ_discrete x b) (kept_below f (suc b) n x) e
   where
-    go : (k : ℕ) → k < j → Dec (k < i) → get_or l k 0 ≡ f k (get_or l₀ k 0)
-    go k q (yes r) = e.done k r
-    go k q (no r) = e.left k (omega arith) ∙ sym (z k (omega arith) q)
+    go : (c : Bool) → Dec (x ≡ b) → (any (eqb x) (keep f (up_to (suc b) n)) ≡ true → x < suc b + n)
+        → any (eqb x) (if c then b ∷ keep f (up_to (suc b) n) else keep f (up_to (suc b) n)) ≡ true → x < b + suc n
+    go c (yes q) ih h = omega arith
+    go false (no q) ih h = omega (arith, ih h)
+    go true (no q) ih h = omega (arith, ih (sym (ap (λ (y : Bool). y || any (eqb x) (keep f (up_to (suc b) n))) (ne_eqb x b q)) ∙ h))
 
-pub each_all : {f : ℕ → ℕ → ℕ} {l₀ l : List ℕ} {i : ℕ} → length l₀ ≤ i → Each f l₀ l i → Replaces f l₀ l
-each_all h e = record { size = e.len; is = λ k q. e.done k (omega arith) }
+-- the entries of the slots done are p, and the others stand; those to come are the rest of the set
+pub record Gives (ws : List ℕ) (p : ℕ) (l₀ l done rest : List ℕ) : Type 0 where
+  pub parts : done ++ rest ≡ slots_of ws
+  pub replaces : Replaces (λ k x. if any (eqb k) done then p else x) l₀ l
+
+pub gives_start : (ws : List ℕ) (p : ℕ) (l rest : List ℕ) → rest ≡ slots_of ws → Gives ws p l l [] rest
+gives_start ws p l rest e = record { parts = e; replaces = record { size = refl; is = λ k h. refl } }
+
+module _ {ws l₀ l done rest : List ℕ} {p : ℕ} (g : Gives ws p l₀ l done rest) where
+  pub gives_ends : rest ≡ [] → Replaces (λ k x. if any (eqb k) (slots_of ws) then p else x) l₀ l
+  gives_ends e =
+      let all : done ≡ slots_of ws = sym (append-nil done) ∙ ap (λ (r : List ℕ). done ++ r) (sym e) ∙ g.parts in
+      record { size = g.replaces.size; is = λ k h. rw (← all) (g.replaces.is k h) }
+
+  module _ {x : ℕ} {more : List ℕ} (e : rest ≡ x ∷ more) where
+    pub gives_slot : x < slot_count
+    unfolding slots_of
+    gives_slot =
+        let all : done ++ x ∷ more ≡ slots_of ws = ap (λ (r : List ℕ). done ++ r) (sym e) ∙ g.parts in
+        let here : any (eqb x) (done ++ x ∷ more) ≡ true =
+        any_append (eqb x) done (x ∷ more) ∙ ap (λ (b : Bool). any (eqb x) done || (b || any (eqb x) more)) (eq-eqb x x refl) ∙ or-true (any (eqb x) done) in
+        omega (arith, kept_below (has ws) 0 slot_count x (sym (ap (any (eqb x)) all) ∙ here))
+
+    pub gives_more : x < length l → Gives ws p l₀ (set l x p) (done ++ x ∷ []) more
+    gives_more h = record {
+      parts = append_assoc done (x ∷ []) more ∙ ap (λ (r : List ℕ). done ++ r) (sym e) ∙ g.parts;
+      replaces = record {
+        size = length-set l x p ∙ g.replaces.size;
+        is = λ k q. go k q (ℕ_discrete k x);
+      };
+    }
+      where
+        known : (k : ℕ) → any (eqb k) (done ++ x ∷ []) ≡ (any (eqb k) done || (eqb k x || false))
+        known k = any_append (eqb k) done (x ∷ [])
+
+        go : (k : ℕ) → k < length l₀ → Dec (k ≡ x) → get_or (set l x p) k 0 ≡ (if any (eqb k) (done ++ x ∷ []) then p else get_or l₀ k 0)
+        go k q (yes r) = rw (known k, eq-eqb k x r, or-true (any (eqb k) done)) (ap (λ (n : ℕ). get_or (set l x p) n 0) r ∙ get_or-set_same l x p 0 h)
+        go k q (no r) = rw (known k, ne_eqb k x r, or-false (any (eqb k) done)) (get_or-set_other l x k p 0 r ∙ g.replaces.is k q)
 
 -- ---- both
 
@@ -52,10 +91,12 @@ laid_from p slots n (e ∷ es) (suc k) h =
 laid_at : (p : ℕ) (slots es : List ℕ) (k : ℕ) → k < length es → get_or (laid p slots 0 es) k 0 ≡ entry p slots k (get_or es k 0)
 laid_at p slots es k h = laid_from p slots 0 es k h ∙ ap (λ (m : ℕ). entry p slots m (get_or es k 0)) (zero-add k)
 
-pub laid_is : (p : ℕ) (ws : List ℕ) {l m r : List ℕ} → length l ≡ slot_count → Replaces (λ k x. if eqb x p then no_place else x) l m
-    → Replaces (λ k x. if has ws k then p else x) m r → r ≡ laid p (slots_of ws) 0 l
-laid_is p ws {l} {m} {r} n c g =
-    ext_get_or 0 r (laid p (slots_of ws) 0 l) (g.size ∙ c.size ∙ sym (laid_length p (slots_of ws) 0 l)) (λ k h.
+pub laid_is : (p : ℕ) (slots : List ℕ) {l m r : List ℕ} → Replaces (λ k x. if eqb x p then no_place else x) l m
+    → Replaces (λ k x. if any (eqb k) slots then p else x) m r → r ≡ laid p slots 0 l
+laid_is p slots {l} {m} {r} c g =
+    ext_get_or 0 r (laid p slots 0 l) (g.size ∙ c.size ∙ sym (laid_length p slots 0 l)) (λ k h.
     let q : k < length l = omega (arith, g.size, c.size) in
-    g.is k (omega (arith, c.size)) ∙ ap₂ (λ (b : Bool) (x : ℕ). if b then p else x) (sym (slots_have ws k (omega arith))) (c.is k q)
-    ∙ sym (laid_at p (slots_of ws) l k q))
+    g.is k (omega (arith, c.size)) ∙ ap (λ (x : ℕ). if any (eqb k) slots then p else x) (c.is k q) ∙ sym (laid_at p slots l k q))
+
+-- what the steps of a walk over the slots come to
+pub ruleset by_slots = (gives_start, gives_slot, gives_more, gives_ends)

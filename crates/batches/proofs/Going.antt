@@ -1,21 +1,21 @@
 -- A batch read record by record: its records are those taken so far and those from the place on.
 use Rattle.std.specs.Prelude.{if◌then◌else◌}
 use mathlib.Core.Path.{◌≡◌, refl, sym, ap, ◌∙◌}
-use mathlib.Core.Bool.{Bool, true, false, ◌&&◌, true≢false}
+use mathlib.Core.Bool.{Bool, true, false, ◌&&◌}
 use mathlib.Core.List.{List, [], ◌∷◌, ◌++◌, append-nil, append_assoc}
 use mathlib.Core.Option.{Option, none, some}
 use Prim.Native.Nat.{ℕ, ◌≤◌, ◌<◌}
 use lib.ListN.{length, drop}
-use Rattle.rules.specs.Basics.{all, case_of, given}
+use Rattle.std.specs.Prelude as P
+use Rattle.rules.specs.Basics.{all, case_of}
 use Rattle.rules.specs.Records.{Record, fits, placed}
 use Rattle.rules.specs.Reader.{joined, read_all}
-use Rattle.reading.specs.Fitting.{read_fitting_all}
-use Rattle.reading.specs.Views.{ReadsRecord, view_record}
-use Rattle.reading.specs.declared.RecordRead.{RecordRead}
+use Rattle.reading.specs.Fitting.{read_fitting, read_fitting_all}
 use Rattle.reading.proofs.Walking.{walk_ends, walk_goes, walk_stops}
 use Rattle.batches.specs.declared.Gathered.{Gathered}
-use Rattle.batches.specs.Gathered.{kept, fitting, Gathers}
-use Rattle.batches.specs.Adding.{Holds, TakesOne, Takes}
+use Rattle.batches.specs.Gathered.{kept, fitting, Says}
+use Rattle.batches.specs.Adding.{Holds, Takes}
+use Rattle.batches.proofs.More.{nothing}
 
 -- ---- places, after numbers
 
@@ -71,17 +71,18 @@ whose_joined a (some rs) = go (placed a) (all placed rs)
 
 -- ---- from a place on
 
-module _ {s : List ℕ} {at : ℕ} {n : RecordRead} (h : ReadsRecord s at n) where
-  fit_goes : (a : Record) → view_record n ≡ some a → fitting (drop at s) ≡ (if placed a then joined a (fitting (drop n.next s)) else none)
-  fit_goes a e =
-      fitting_is (drop at s) ∙ ap whose (walk_goes h a e) ∙ whose_joined a (read_fitting_all (drop n.next s))
-      ∙ ap (λ (o : Option (List Record)). if placed a then joined a o else none) (sym (fitting_is (drop n.next s)))
+module _ (s : List ℕ) (at : ℕ) where
+  fit_goes : (a : Record) (next : ℕ) → at < length s → read_fitting (drop at s) ≡ some (a, drop next s)
+      → fitting (drop at s) ≡ (if placed a then joined a (fitting (drop next s)) else none)
+  fit_goes a next l e =
+      fitting_is (drop at s) ∙ ap whose (walk_goes s at a next l e) ∙ whose_joined a (read_fitting_all (drop next s))
+      ∙ ap (λ (o : Option (List Record)). if placed a then joined a o else none) (sym (fitting_is (drop next s)))
 
-  fit_stops : at < length s → view_record n ≡ none → fitting (drop at s) ≡ none
-  fit_stops l e = fitting_is (drop at s) ∙ ap whose (walk_stops h l e)
+  fit_stops : at < length s → read_fitting (drop at s) ≡ none → fitting (drop at s) ≡ none
+  fit_stops l e = fitting_is (drop at s) ∙ ap whose (walk_stops s at l e)
 
-fit_ends : (s : List ℕ) (at : ℕ) → length s ≤ at → fitting (drop at s) ≡ some []
-fit_ends s at l = fitting_is (drop at s) ∙ ap whose (walk_ends s at l)
+  fit_ends : length s ≤ at → fitting (drop at s) ≡ some []
+  fit_ends l = fitting_is (drop at s) ∙ ap whose (walk_ends s at l)
 
 -- ---- the records so far
 
@@ -105,54 +106,32 @@ pub record Going (s : List ℕ) (at : ℕ) (r : Gathered) (t : List Bool) (e₀ 
 pub going_begins : {s : List ℕ} {r : Gathered} {t : List Bool} {e : List ℕ} → Holds [] r t e e → Going s 0 r t e e
 going_begins {s} h = record { records = []; read = after_nothing (fitting s); holds = h }
 
-module _ {s : List ℕ} {at : ℕ} {r r' : Gathered} {t t' : List Bool} {e₀ e e' : List ℕ} {n : RecordRead}
-    (g : Going s at r t e₀ e) (h : ReadsRecord s at n) (k : Takes (view_record n) r r' t t' e e') where
-  pub going_ahead : r'.whole ≡ true → at < n.next
-  going_ahead w = go (view_record n) refl k.is
-    where
-      go : (o : Option Record) → view_record n ≡ o → TakesOne o r r' t t' e e' → at < n.next
-      go none q x = absurd (true≢false (sym w ∙ x))
-      go (some a) q x = h.ahead (ap given q)
+module _ {s : List ℕ} {at : ℕ} {r : Gathered} {t : List Bool} {e₀ e : List ℕ} (g : Going s at r t e₀ e) where
+  -- from the place on nothing is a batch, and so nothing is
+  stuck : fitting (drop at s) ≡ none → fitting s ≡ none
+  stuck e = g.read ∙ ap (after g.records) e
 
-  pub going_on : r'.whole ≡ true → Going s n.next r' t' e₀ e'
-  going_on w = go (view_record n) refl k.is
-    where
-      pick : (a : Record) → view_record n ≡ some a → TakesOne (some a) r r' t t' e e' → (b : Bool) → placed a ≡ b → Going s n.next r' t' e₀ e'
-      pick a q x false p = absurd (true≢false (sym w ∙ x.0 p))
-      pick a q x true p =
-          record {
-            records = g.records ++ a ∷ [];
-            read =
-                g.read ∙ ap (after g.records) (fit_goes h a q ∙ ap (λ (b : Bool). if b then joined a (fitting (drop n.next s)) else none) p)
-                ∙ after_joined g.records a (fitting (drop n.next s));
-            holds = x.1 p g.records e₀ g.holds;
-          }
+  pub going_cut : at < length s → read_fitting (drop at s) ≡ none → fitting s ≡ none
+  going_cut l e = stuck (fit_stops s at l e)
 
-      go : (o : Option Record) → view_record n ≡ o → TakesOne o r r' t t' e e' → Going s n.next r' t' e₀ e'
-      go none q x = absurd (true≢false (sym w ∙ x))
-      go (some a) q x = pick a q x (placed a) refl
+  module _ (a : Record) (next : ℕ) (l : at < length s) (first : read_fitting (drop at s) ≡ some (a, drop next s)) where
+    goes : (b : Bool) → placed a ≡ b → fitting (drop at s) ≡ (if b then joined a (fitting (drop next s)) else none)
+    goes b p = fit_goes s at a next l first ∙ ap (λ (b : Bool). if b then joined a (fitting (drop next s)) else none) p
 
-  pub going_stops : at < length s → r'.whole ≡ false → Gathers s r' t' e₀ e'
-  going_stops l w =
+    pub going_lost : placed a ≡ false → fitting s ≡ none
+    going_lost p = stuck (goes false p)
+
+    pub going_on : (r' : Gathered) (t' : List Bool) (e' : List ℕ) → Takes a r (P.Some r') t t' e e' → Going s next r' t' e₀ e'
+    going_on r' t' e' k = record {
+      records = g.records ++ a ∷ [];
+      read = g.read ∙ ap (after g.records) (goes true k.0) ∙ after_joined g.records a (fitting (drop next s));
+      holds = k.1 g.records e₀ g.holds;
+    }
+
+  pub going_ends : length s ≤ at → Says s r t e₀ e
+  going_ends l =
+      let h = g.holds in
       record {
-        refuses = λ _. g.read ∙ ap (after g.records) (go (view_record n) refl k.is);
-        says = λ x. absurd (true≢false (sym x ∙ w));
-      }
-    where
-      pick : (a : Record) → view_record n ≡ some a → TakesOne (some a) r r' t t' e e' → (b : Bool) → placed a ≡ b → fitting (drop at s) ≡ none
-      pick a q x false p = fit_goes h a q ∙ ap (λ (b : Bool). if b then joined a (fitting (drop n.next s)) else none) p
-      pick a q x true p = absurd (true≢false (sym (x.1 p g.records e₀ g.holds).whole ∙ w))
-
-      go : (o : Option Record) → view_record n ≡ o → TakesOne o r r' t t' e e' → fitting (drop at s) ≡ none
-      go none q x = fit_stops h l q
-      go (some a) q x = pick a q x (placed a) refl
-
-pub going_ends : {s : List ℕ} {at : ℕ} {r : Gathered} {t : List Bool} {e₀ e : List ℕ} → Going s at r t e₀ e → length s ≤ at → Gathers s r t e₀ e
-going_ends {s} {at} g l =
-    let h = g.holds in
-    record {
-      refuses = λ x. absurd (true≢false (sym h.whole ∙ x));
-      says = λ _. record {
         records = g.records;
         read = g.read ∙ ap (after g.records) (fit_ends s at l) ∙ ap some (append-nil g.records);
         epoch = h.epoch;
@@ -163,5 +142,7 @@ going_ends {s} {at} g l =
         target_epoch = h.target_epoch;
         current = h.current;
         targets = h.targets;
-      };
-    }
+      }
+
+-- what the steps of the loop come to
+pub ruleset by_records = (nothing, going_begins, going_on)

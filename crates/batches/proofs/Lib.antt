@@ -1,3 +1,4 @@
+pub mod Lists
 pub mod More
 pub mod Entries
 pub mod Going

@@ -1,47 +1,67 @@
 -- One record more: what is said by the records so far and by the next one.
-use mathlib.Core.Path.{◌≡◌, refl, sym, ap, subst, ◌∙◌}
-use mathlib.Core.Bool.{Bool, true, false, not, ◌&&◌, ◌||◌, true≢false}
+use Rattle.std.specs.Prelude.{if◌then◌else◌}
+use mathlib.Core.Path.{◌≡◌, refl, sym, ap, ◌∙◌}
+use mathlib.Core.Bool.{Bool, true, false, not, ◌&&◌, ◌||◌, or-false, or-true}
 use mathlib.Core.List.{List, [], ◌∷◌, ◌++◌, foldl, append-nil, append_assoc, foldl-append}
 use mathlib.Core.Option.{Option, none, some}
-use Prim.Native.Nat.{ℕ, ◌≤◌, ◌<◌}
+use Prim.Native.Nat.{ℕ, ◌<◌}
 use native.Mathlib.Decide.{ℕ_discrete}
-use lib.ListN.{length, get_or, set}
+use native.Mathlib.Omega.{arith}
+use lib.ListN.{length, get_or, set, replicate, get_or-replicate}
 use lib.Seq.{get_or-set_same, get_or-set_other}
 use lib.Dec.{eqb, ltb}
-use borrow.Author.Tests.{eq-eqb, ne_eqb, lt-ltb, le-ltb}
+use borrow.Author.Tests.{eq-eqb, ne_eqb, ltb-true}
+use Rattle.std.specs.Prelude as P
+use Rattle.std.specs.Option.{option_or}
 use Rattle.rules.specs.Basics.{any, concat_map, empty, first_some, given, or_else, to_list}
 use Rattle.rules.specs.Constants.{max_members}
 use Rattle.rules.specs.Records.{Record, CurrentAssignment, TargetAssignment, parts_of, placed, target_is, current_gone}
 use Rattle.rules.specs.Ledger.{gone}
 use Rattle.rules.specs.Batches.{current_in, targets_in, laid_over}
 use Rattle.batches.specs.declared.Gathered.{Gathered}
-use Rattle.batches.specs.Gathered.{standing}
-use Rattle.batches.specs.Adding.{Adds, Holds, TakesOne, Takes}
+use Rattle.batches.specs.Gathered.{maybe, standing}
+use Rattle.batches.specs.Adding.{Adds, Holds, Takes}
+use Rattle.batches.proofs.Lists.{any_append}
 
--- nothing is added
-pub or_none : {A : Type 0} (o : Option A) → o ≡ or_else o none
+-- ---- what is added
+
+pub or_none : {A : Type 0} (o : Option A) → or_else o none ≡ o
 or_none none = refl
 or_none (some a) = refl
 
-pub or_off : (b : Bool) → b ≡ (b || false)
-or_off true = refl
-or_off false = refl
+-- the first of a kind counts
+pub first_counts : {A B : Type 0} (f : A → B) (o : P.Option A) (a : A) → maybe f (option_or o (P.Some a)) ≡ or_else (maybe f o) (some (f a))
+first_counts f P.None a = refl
+first_counts f (P.Some b) a = refl
 
-pub or_on : (b : Bool) → true ≡ (b || true)
-or_on true = refl
-or_on false = refl
+pub ruleset adding = (or_none, or-false, or-true, first_counts)
 
 -- ---- records 7, and 8 of a member that is gone
 
 pub adds_target : (t : TargetAssignment) (r : Gathered) → Adds (target_is t) r r
 unfolding parts_of standing
-adds_target t r =
-    record { whole = refl; epoch = or_none _; topic = or_none _; member = or_none _; any_gone = or_off _; target_epoch = or_none _; current = or_none _ }
+adds_target t r = record { epoch = rw or_none; topic = rw or_none; member = rw or_none; any_gone = rw or-false; target_epoch = rw or_none; current = rw or_none }
 
 pub adds_current_gone : (p : ℕ) (r : Gathered) → Adds (current_gone p) r r
 unfolding parts_of standing
-adds_current_gone p r =
-    record { whole = refl; epoch = or_none _; topic = or_none _; member = or_none _; any_gone = or_off _; target_epoch = or_none _; current = or_none _ }
+adds_current_gone p r = record { epoch = rw or_none; topic = rw or_none; member = rw or_none; any_gone = rw or-false; target_epoch = rw or_none; current = rw or_none }
+
+-- ---- no record
+
+pub nothing : (entries : List ℕ)
+    → Holds [] (record { epoch = P.None; topic = P.None; member = P.None; any_gone = false; target_epoch = P.None; current = P.None })
+    (replicate max_members false) entries entries
+unfolding gone standing targets_in
+nothing entries = record {
+  epoch = refl;
+  topic = refl;
+  member = refl;
+  any_gone = refl;
+  marks = λ p h. get_or-replicate max_members p false false h;
+  target_epoch = refl;
+  current = refl;
+  targets = refl;
+}
 
 -- ---- lists with one element more
 
@@ -50,7 +70,7 @@ or_assoc none p q = refl
 or_assoc (some a) p q = refl
 
 first_last : {A : Type 0} (f : Record → Option A) (rs : List Record) (a : Record) → first_some f (rs ++ a ∷ []) ≡ or_else (first_some f rs) (f a)
-first_last f [] a = sym (or_none (f a))
+first_last f [] a = or_none (f a)
 first_last f (r ∷ rs) a = ap (or_else (f r)) (first_last f rs a) ∙ sym (or_assoc (f r) (first_some f rs) (f a))
 
 concat_last : {A : Type 0} (f : Record → Option A) (rs : List Record) (a : Record)
@@ -63,14 +83,6 @@ empty_append : {A : Type 0} (l : List A) (o : Option A) → not (empty (l ++ to_
 empty_append [] none = refl
 empty_append [] (some a) = refl
 empty_append (x ∷ l) o = refl
-
-any_append : (f : ℕ → Bool) (l m : List ℕ) → any f (l ++ m) ≡ (any f l || any f m)
-any_append f [] m = refl
-any_append f (x ∷ l) m = ap (λ b. f x || b) (any_append f l m) ∙ sym (or_or (f x) (any f l) (any f m))
-  where
-    or_or : (a b c : Bool) → ((a || b) || c) ≡ (a || (b || c))
-    or_or true b c = refl
-    or_or false b c = refl
 
 standing_or : (o p : Option CurrentAssignment) → standing (or_else o p) ≡ or_else (standing o) (standing p)
 unfolding standing
@@ -88,7 +100,6 @@ pub holds_more : {rs : List Record} {r r' : Gathered} {t t' : List Bool} {e₀ e
     → Holds rs r t e₀ e → Holds (rs ++ a ∷ []) r' t' e₀ e'
 unfolding gone targets_in
 holds_more {rs} {r} {r'} {t} {t'} {e₀} {e} {e'} a d m l h = record {
-  whole = d.whole ∙ h.whole;
   epoch = d.epoch ∙ ap (λ o. or_else o (parts_of a).epoch) h.epoch ∙ sym (first_last (λ x. (parts_of x).epoch) rs a);
   topic = d.topic ∙ ap (λ o. or_else o (parts_of a).topic) h.topic ∙ sym (first_last (λ x. (parts_of x).topic) rs a);
   member = d.member ∙ ap (λ o. or_else o (parts_of a).member) h.member ∙ sym (first_last (λ x. (parts_of x).member) rs a);
@@ -109,33 +120,39 @@ holds_more {rs} {r} {r'} {t} {t'} {e₀} {e} {e'} a d m l h = record {
 -- ---- one record taken
 
 pub marks_none : {t : List Bool} → MarksOne t t none
-marks_none {t} = record { is = λ p h. or_off (get_or t p false) }
+marks_none {t} = record { is = λ p h. sym (or-false (get_or t p false)) }
 
-pub marks_some : {t : List Bool} (q : ℕ) → q < length t → MarksOne t (set t q true) (some q)
-marks_some {t} q l = record { is = λ p h. go p (ℕ_discrete p q) }
+pub marks_some : {t : List Bool} (p q : ℕ) → q ≡ p → q < length t → MarksOne t (set t q true) (some p)
+marks_some {t} p q e l = record { is = λ k h. go k (ℕ_discrete k q) }
   where
-    go : (p : ℕ) → Dec (p ≡ q) → get_or (set t q true) p false ≡ (get_or t p false || (eqb p q || false))
-    go p (yes e) =
-        ap (λ (n : ℕ). get_or (set t q true) n false) e ∙ get_or-set_same t q true false l
-        ∙ sym (ap (λ (b : Bool). get_or t p false || (b || false)) (eq-eqb p q e) ∙ sym (or_on (get_or t p false)))
-    go p (no e) =
-        get_or-set_other t q p true false e ∙ or_off (get_or t p false) ∙ ap (λ (b : Bool). get_or t p false || (b || false)) (sym (ne_eqb p q e))
+    go : (k : ℕ) → Dec (k ≡ q) → get_or (set t q true) k false ≡ (get_or t k false || (eqb k p || false))
+    go k (yes f) = rw (eq-eqb k p (f ∙ e), or-true (get_or t k false)) (ap (λ (n : ℕ). get_or (set t q true) n false) f ∙ get_or-set_same t q true false l)
+    go k (no f) = rw (ne_eqb k p (λ (h : k ≡ p). f (h ∙ sym e)), or-false (get_or t k false)) (get_or-set_other t q k true false f)
 
--- the test of a record with one place
-pub there : (p : ℕ) → p < max_members → (ltb p max_members && true) ≡ true
-there p h = rw (lt-ltb p max_members h)
+-- a place, as it is found
+pub record There (p q : ℕ) : Type 0 where
+  pub placed : (ltb p max_members && true) ≡ true
+  pub same : q ≡ p
+  pub below : q < max_members
 
-pub nowhere : (p : ℕ) → max_members ≤ p → (ltb p max_members && true) ≡ false
-nowhere p h = rw (le-ltb p max_members h)
+pub there : (p q : ℕ) → P.Some q ≡ (if ltb p max_members then P.Some p else P.None) → There p q
+there p q h = go (ltb p max_members) refl h
+  where
+    go : (b : Bool) → ltb p max_members ≡ b → P.Some q ≡ (if b then P.Some p else P.None) → There p q
+    go true e h =
+        let same : q ≡ p = cc in
+        let below : p < max_members = ltb-true p max_members e in
+        record { placed = rw e; same = same; below = omega arith }
+    go false e h = cc
+
+pub nowhere : (p : ℕ) → P.None ≡ (if ltb p max_members then P.Some p else P.None) → (ltb p max_members && true) ≡ false
+nowhere p h = go (ltb p max_members) refl h
+  where
+    go : (b : Bool) → ltb p max_members ≡ b → P.None ≡ (if b then P.Some p else P.None) → (ltb p max_members && true) ≡ false
+    go true e h = cc
+    go false e h = rw e
 
 module _ {r r' : Gathered} {t t' : List Bool} {e e' : List ℕ} where
-  pub taken : (o : Option Record) (a : Record) → o ≡ some a → placed a ≡ true → Adds a r r' → MarksOne t t' (parts_of a).member_gone
-      → e' ≡ foldl laid_over e (to_list (parts_of a).target) → Takes o r r' t t' e e'
-  taken o a q p d m l =
-      record { is = subst (λ (x : Option Record). TakesOne x r r' t t' e e') (sym q) (λ f. absurd (true≢false (sym p ∙ f)), λ _ rs e₀. holds_more a d m l) }
-
-  pub lost : (o : Option Record) (a : Record) → o ≡ some a → placed a ≡ false → r'.whole ≡ false → Takes o r r' t t' e e'
-  lost o a q p w = record { is = subst (λ (x : Option Record). TakesOne x r r' t t' e e') (sym q) (λ _. w, λ f. absurd (true≢false (sym f ∙ p))) }
-
-  pub missing : (o : Option Record) → o ≡ none → r'.whole ≡ false → Takes o r r' t t' e e'
-  missing o q w = record { is = subst (λ (x : Option Record). TakesOne x r r' t t' e e') (sym q) w }
+  pub taken : (a : Record) → placed a ≡ true → Adds a r r' → MarksOne t t' (parts_of a).member_gone
+      → e' ≡ foldl laid_over e (to_list (parts_of a).target) → Takes a r (P.Some r') t t' e e'
+  taken a p d m l = (p, λ rs e₀. holds_more a d m l)

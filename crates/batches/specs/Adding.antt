@@ -1,7 +1,8 @@
 -- One record more of a batch: what its records up to here say, and what the next one adds.
 use Rattle.std.specs.Prelude.{ℕ, ◌≡◌, Bool, true, false, not, ◌||◌}
 use mathlib.Core.List.{List, [], ◌∷◌, ◌++◌, foldl}
-use Rattle.std.proofs.Math.Option.{Option, none, some}
+use Rattle.std.specs.Prelude as P
+use Rattle.std.proofs.Math.Option.{Option}
 use Rattle.rules.specs.Basics.{empty, given, or_else}
 use Rattle.rules.specs.Records.{Record, parts_of, placed}
 use Rattle.rules.specs.Ledger.{gone}
@@ -11,7 +12,6 @@ use Rattle.batches.specs.Gathered.{epoch_as, topic_as, member_as, target_epoch_a
 
 -- the first records: those there were, or else this one
 pub record Adds (a : Record) (r r' : Gathered) : Type 0 where
-  pub whole : r'.whole ≡ r.whole
   pub epoch : epoch_as r' ≡ or_else (epoch_as r) (parts_of a).epoch
   pub topic : topic_as r' ≡ or_else (topic_as r) (parts_of a).topic
   pub member : member_as r' ≡ or_else (member_as r) (parts_of a).member
@@ -21,7 +21,6 @@ pub record Adds (a : Record) (r r' : Gathered) : Type 0 where
 
 -- the records so far, and what they say
 pub record Holds (rs : List Record) (r : Gathered) (table : List Bool) (entries entries' : List ℕ) : Type 0 where
-  pub whole : r.whole ≡ true
   pub epoch : epoch_as r ≡ epoch_in rs
   pub topic : topic_as r ≡ topic_in rs
   pub member : member_as r ≡ member_in rs
@@ -31,12 +30,8 @@ pub record Holds (rs : List Record) (r : Gathered) (table : List Bool) (entries 
   pub current : current_as r ≡ standing (current_in rs)
   pub targets : entries' ≡ foldl laid_over entries (targets_in rs)
 
--- a record whose place there is says what it says after the others; any other breaks the batch, and so does none
-abbrev pub TakesOne : Option Record → Gathered → Gathered → List Bool → List Bool → List ℕ → List ℕ → Type 0
-TakesOne none r r' t t' e e' = r'.whole ≡ false
-TakesOne (some a) r r' t t' e e' =
-    (placed a ≡ false → r'.whole ≡ false)
-    × (placed a ≡ true → (rs : List Record) (e₀ : List ℕ) → Holds rs r t e₀ e → Holds (rs ++ a ∷ []) r' t' e₀ e')
-
-pub record Takes (o : Option Record) (r r' : Gathered) (t t' : List Bool) (e e' : List ℕ) : Type 0 where
-  pub is : TakesOne o r r' t t' e e'
+-- a record whose place there is says what it says after the others; any other is refused
+abbrev pub Takes : Record → Gathered → P.Option Gathered → List Bool → List Bool → List ℕ → List ℕ → Type 0
+Takes a r P.None t t' e e' = placed a ≡ false
+Takes a r (P.Some r') t t' e e' =
+    (placed a ≡ true) × ((rs : List Record) (e₀ : List ℕ) → Holds rs r t e₀ e → Holds (rs ++ a ∷ []) r' t' e₀ e')

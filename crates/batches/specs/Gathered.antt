@@ -1,6 +1,7 @@
 -- What the records of a batch say, gathered in one pass.
-use Rattle.std.specs.Prelude.{ℕ, ◌<◌, ◌≡◌, Bool, true, false, not, ◌&&◌, get_or, eqb, if◌then◌else◌}
+use Rattle.std.specs.Prelude.{ℕ, ◌<◌, ◌≡◌, Bool, false, not, ◌&&◌, get_or, eqb, if◌then◌else◌}
 use mathlib.Core.List.{List, foldl}
+use Rattle.std.specs.Prelude as P
 use Rattle.std.proofs.Math.Option.{Option, none, some}
 use Rattle.rules.specs.Basics.{all, any, case_of, empty}
 use Rattle.rules.specs.Constants.{max_members}
@@ -19,25 +20,29 @@ fitting bytes = case_of (read_all bytes) none kept
 
 -- ---- the first record of a kind
 
-unfoldable pub epoch_as : Gathered → Option ℕ
-epoch_as r = if r.has_epoch then some r.epoch else none
+-- what may be there, as the rules have it
+abbrev pub maybe : {A B : Type 0} → (A → B) → P.Option A → Option B
+maybe f P.None = none
+maybe f (P.Some a) = some (f a)
 
-unfoldable pub topic_as : Gathered → Option TopicMetadata
-topic_as r = if r.has_topic then some (record { number = r.topic; id = r.topic_id; count = r.count }) else none
+abbrev pub epoch_as : Gathered → Option ℕ
+epoch_as r = maybe (λ n. n) r.epoch
 
-unfoldable pub member_as : Gathered → Option MemberMetadata
-member_as r =
-    if r.has_member then some (record { place = r.member; id = r.member_id; timeout = r.timeout; subscription = r.subscription }) else none
+abbrev pub topic_as : Gathered → Option TopicMetadata
+topic_as r = maybe (λ t. record { number = t.number; id = t.id; count = t.count }) r.topic
 
-unfoldable pub target_epoch_as : Gathered → Option ℕ
-target_epoch_as r = if r.has_target_epoch then some r.target_epoch else none
+abbrev pub member_as : Gathered → Option MemberMetadata
+member_as r = maybe (λ m. record { place = m.place; id = m.id; timeout = m.timeout; subscription = m.subscription }) r.member
+
+abbrev pub target_epoch_as : Gathered → Option ℕ
+target_epoch_as r = maybe (λ n. n) r.target_epoch
 
 -- of a record 8 its place and its epoch: its sets are compared as bytes
 unfoldable pub standing : Option CurrentAssignment → Option (ℕ × ℕ)
 standing c = case_of c none (λ a. some (a.place, a.epoch))
 
-unfoldable pub current_as : Gathered → Option (ℕ × ℕ)
-current_as r = if r.has_current then some (r.current, r.current_epoch) else none
+abbrev pub current_as : Gathered → Option (ℕ × ℕ)
+current_as r = maybe (λ c. c) r.current
 
 -- ---- a whole batch
 
@@ -58,7 +63,7 @@ pub record Says (bytes : List ℕ) (r : Gathered) (table : List Bool) (entries e
   pub current : current_as r ≡ standing (current_in records)
   pub targets : entries' ≡ foldl laid_over entries (targets_in records)
 
--- a batch gathered: the table as it is left, and the entries before and after. Of a batch that is not whole nothing else counts
-pub record Gathers (bytes : List ℕ) (r : Gathered) (table : List Bool) (entries entries' : List ℕ) : Type 0 where
-  pub refuses : r.whole ≡ false → fitting bytes ≡ none
-  pub says : r.whole ≡ true → Says bytes r table entries entries'
+-- a batch gathered: the table as it is left, and the entries before and after
+abbrev pub Gathers : List ℕ → P.Option Gathered → List Bool → List ℕ → List ℕ → Type 0
+Gathers bytes P.None table entries entries' = fitting bytes ≡ none
+Gathers bytes (P.Some r) table entries entries' = Says bytes r table entries entries'

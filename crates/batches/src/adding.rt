@@ -1,91 +1,118 @@
 // One record more: of each kind the first counts.
-ghost use Rattle.std.specs.Prelude.{◌≡◌, false, List, ℕ};
-ghost use Rattle.rules.specs.Records.{group_epoch, topic_is, member_is, member_gone, target_epoch, current_is};
-ghost use Rattle.batches.specs.Adding.{Adds};
+#![tactic(auto, using(crate::proofs::More::adding), unfolding(rules::specs::Records::parts_of, crate::specs::Gathered::standing))]
 
-use crate::Gathered;
-use rules::Id;
+ghost use Rattle.std.specs.Prelude.{◌≡◌, List, ℕ, ltb, None, Some, if◌then◌else◌};
+ghost use Rattle.rules.specs.Constants.{max_members};
+ghost use Rattle.rules.specs.Records.{group_epoch, topic_is, member_is, member_gone, target_epoch, current_is};
+ghost use Rattle.reading.specs.Views.{view_record};
+ghost use Rattle.batches.specs.Adding.{Adds, Takes};
+
+use crate::{Gathered, laying};
+use reading::{Member, Record, Topic};
+use rules::{MEMBERS, SLOTS};
+
+// A place is below this.
+const PLACE_END: u32 = MEMBERS as u32;
+
+// The place of this number, where there is one.
+fn place(p: u32) -> Option<u8>
+    ensures { result ≡ (if ltb p max_members then Some p else None) }
+{
+    if p < PLACE_END {
+        return Some(p as u8);
+    }
+    None
+}
 
 impl Gathered {
     pub fn with_epoch(self, n: u32) -> Gathered
         ensures { Adds (group_epoch n) self result }
     {
-        if self.has_epoch {
-            return self;
+        Gathered {
+            epoch: self.epoch.or(Some(n)),
+            ..self
         }
-        let mut r = self;
-        r.has_epoch = true;
-        r.epoch = n;
-        r
     }
 
-    pub fn with_topic(self, topic: u32, id: Id, count: u32) -> Gathered
-        ensures { Adds (topic_is (record { number = topic; id = id; count = count })) self result }
+    pub fn with_topic(self, t: Topic) -> Gathered
+        ensures { Adds (topic_is (record { number = t.number; id = t.id; count = t.count })) self result }
     {
-        if self.has_topic {
-            return self;
+        Gathered {
+            topic: self.topic.or(Some(t)),
+            ..self
         }
-        let mut r = self;
-        r.has_topic = true;
-        r.topic = topic;
-        r.topic_id = id;
-        r.count = count;
-        r
     }
 
-    pub fn with_member(self, place: u32, id: Id, timeout: u32, subscription: u32) -> Gathered
-        ensures { Adds (member_is (record { place = place; id = id; timeout = timeout; subscription = subscription })) self result }
+    pub fn with_member(self, m: Member) -> Gathered
+        ensures { Adds (member_is (record { place = m.place; id = m.id; timeout = m.timeout; subscription = m.subscription })) self result }
     {
-        if self.has_member {
-            return self;
+        Gathered {
+            member: self.member.or(Some(m)),
+            ..self
         }
-        let mut r = self;
-        r.has_member = true;
-        r.member = place;
-        r.member_id = id;
-        r.timeout = timeout;
-        r.subscription = subscription;
-        r
     }
 
     pub fn with_gone(self) -> Gathered
         ensures { (p : ℕ) → Adds (member_gone p) self result }
     {
-        let mut r = self;
-        r.any_gone = true;
-        r
+        Gathered {
+            any_gone: true,
+            ..self
+        }
     }
 
     pub fn with_target_epoch(self, n: u32) -> Gathered
         ensures { Adds (target_epoch n) self result }
     {
-        if self.has_target_epoch {
-            return self;
+        Gathered {
+            target_epoch: self.target_epoch.or(Some(n)),
+            ..self
         }
-        let mut r = self;
-        r.has_target_epoch = true;
-        r.target_epoch = n;
-        r
     }
 
     pub fn with_current(self, place: u32, epoch: u32) -> Gathered
         ensures { (a q : List ℕ) → Adds (current_is (record { place = place; epoch = epoch; assigned = a; revoking = q })) self result }
     {
-        if self.has_current {
-            return self;
+        Gathered {
+            current: self.current.or(Some((place, epoch))),
+            ..self
         }
-        let mut r = self;
-        r.has_current = true;
-        r.current = place;
-        r.current_epoch = epoch;
-        r
     }
 
-    pub fn broken(self) -> Gathered
-        ensures { result.whole ≡ false }
+    // What the record says is added, a place gone is marked, a target is laid over. Nothing is said with a record whose place there is not.
+    #[tactic(auto, using(crate::proofs::More::nowhere), unfolding(rules::specs::Records::placed, rules::specs::Records::places_of))]
+    pub fn take(
+        self,
+        record: &Record,
+        gone: &mut [bool; MEMBERS],
+        entries: &mut [u8; SLOTS],
+    ) -> Option<Gathered>
+        ensures { Takes (view_record record.now) self result gone.old gone.new entries.old entries.new }
     {
-        let mut r = self;
-        r.whole = false;
-        r
+        match *record {
+            Record::GroupEpoch(n) => Some(self.with_epoch(n)),
+            Record::Topic(t) => Some(self.with_topic(t)),
+            Record::Member(m) => {
+                place(m.place)?;
+                Some(self.with_member(m))
+            }
+            Record::MemberGone(p) => {
+                gone[place(p)? as usize] = true;
+                Some(self.with_gone())
+            }
+            Record::TargetEpoch(n) => Some(self.with_target_epoch(n)),
+            Record::Target(t) => {
+                laying::lay(entries, place(t.place)?, t.slots);
+                Some(self)
+            }
+            Record::Current(c) => {
+                place(c.place)?;
+                Some(self.with_current(c.place, c.epoch))
+            }
+            Record::CurrentGone(p) => {
+                place(p)?;
+                Some(self)
+            }
+        }
     }
 }

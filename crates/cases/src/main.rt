@@ -7,11 +7,11 @@
 // the length of the buffer lent, 64 at most. The topic is topic 0, and a joiner subscribes to it.
 #![tactic(auto)]
 
-use events::{Outcome, Request};
-use group::{CELLS, EPOCH, TARGET_EPOCH, TOPIC_BYTES};
-use rules::{Answer, NO_PLACE, SLOTS, TOPICS};
-use std::io;
+use events::{Outcome, Request, Said};
+use group::{Group, Head};
+use rules::{Answer, NO_PLACE, NO_SLOT, SLOTS};
 use std::io::{Read, Write};
+use std::{fmt, io};
 
 const COLUMNS: usize = 7;
 
@@ -23,86 +23,45 @@ struct Row {
     has_name: bool,
 }
 
-fn field<W: Write>(out: &mut W, s: &[u8], n: u32) -> io::Result<()> {
-    out.write_all(s)?;
-    write!(out, "{n}")
+fn wide(n: u32) -> usize {
+    n as usize
 }
 
-fn byte<W: Write>(out: &mut W, b: u8) -> io::Result<()> {
-    write!(out, " {b:02x}")
+// What follows the name: the answer, the slots told, the bytes stored, and G and T.
+#[derive(Drop)]
+struct Shown<'a> {
+    outcome: Outcome,
+    list: &'a [u16],
+    records: &'a [u8],
+    head: Head,
 }
 
-fn slot<W: Write>(out: &mut W, s: u16) -> io::Result<()> {
-    field(out, b" ", s as u32)
-}
-
-// The first `count` bytes, each as two digits with a space before it.
-fn bytes<W: Write>(out: &mut W, records: &[u8], count: usize) -> io::Result<()> {
-    let mut i: usize = 0;
-    while i < count {
-        if i < records.len() {
-            byte(out, records[i])?;
+impl<'a> fmt::Display for Shown<'a> {
+    fn fmt<W: fmt::Write>(&self, f: &mut fmt::Formatter<W>) -> fmt::Result {
+        match self.outcome.answer {
+            Answer::Assigned(x) => {
+                write!(f, "epoch {}, interval {}, slots", x.epoch, x.interval)?;
+                for slot in self.list.iter().take(wide(x.count)) {
+                    write!(f, " {slot}")?;
+                }
+            }
+            Answer::Left => write!(f, "epoch -1")?,
+            Answer::Swept(n) => write!(f, "removed {n}")?,
+            Answer::Done => write!(f, "accepted")?,
+            Answer::Refused(why) => {
+                let said = Said::from(Answer::Refused(why));
+                write!(f, "refused {}", said.number)?;
+                if said.slot != NO_SLOT {
+                    write!(f, " at slot {}", said.slot)?;
+                }
+            }
         }
-        i += 1;
-    }
-    Ok(())
-}
-
-// The first `count` slots, each with a space before it.
-fn slots<W: Write>(out: &mut W, list: &[u16], count: u32) -> io::Result<()> {
-    let mut i: usize = 0;
-    while i < count as usize {
-        if i < list.len() {
-            slot(out, list[i])?;
+        write!(f, "; bytes")?;
+        for byte in self.records.iter().take(self.outcome.written) {
+            write!(f, " {byte:02x}")?;
         }
-        i += 1;
+        write!(f, "; G {}, T {}", self.head.epoch, self.head.target_epoch)
     }
-    Ok(())
-}
-
-fn refusal<W: Write>(out: &mut W, number: u32, slot: u16) -> io::Result<()> {
-    field(out, b"refused ", number)?;
-    if slot != rules::NO_SLOT {
-        field(out, b" at slot ", slot as u32)?;
-    }
-    Ok(())
-}
-
-fn answer<W: Write>(out: &mut W, a: Answer, list: &[u16]) -> io::Result<()> {
-    match a {
-        Answer::Assigned(x) => {
-            field(out, b"epoch ", x.epoch)?;
-            field(out, b", interval ", x.interval)?;
-            out.write_all(b", slots")?;
-            slots(out, list, x.count)
-        }
-        Answer::Left => out.write_all(b"epoch -1"),
-        Answer::Swept(n) => field(out, b"removed ", n),
-        Answer::Done => out.write_all(b"accepted"),
-        Answer::Refused(_) => {
-            let said = events::what_is_said(a);
-            refusal(out, said.number, said.slot)
-        }
-    }
-}
-
-// What follows the name.
-fn show<W: Write>(
-    out: &mut W,
-    a: Answer,
-    list: &[u16],
-    records: &[u8],
-    written: usize,
-    epoch: u32,
-    target_epoch: u32,
-) -> io::Result<()> {
-    out.write_all(b": ")?;
-    answer(out, a, list)?;
-    out.write_all(b"; bytes")?;
-    bytes(out, records, written)?;
-    field(out, b"; G ", epoch)?;
-    field(out, b", T ", target_epoch)?;
-    out.write_all(b"\n")
 }
 
 fn empty_row() -> Row {
@@ -187,177 +146,58 @@ fn entries(n: u32) -> [u8; SLOTS] {
     entries
 }
 
-// A fresh group in place of the one that was there.
-fn renew<'a>(
-    head: &'a mut [u32; 3],
-    members: &'a mut [u32; CELLS],
-    topic_ids: &'a mut [u8; TOPIC_BYTES],
-    topic_counts: &'a mut [u8; TOPICS],
-    target: &'a mut [u8; SLOTS],
-    holder: &'a mut [u8; SLOTS],
-    waiting: &'a mut [bool; SLOTS],
-    tick: u32,
-) {
-    let g = coordinator::fresh(tick);
-    let new_head = g.head;
-    *head = new_head;
-    let new_members = g.members;
-    *members = new_members;
-    let new_topic_ids = g.topic_ids;
-    *topic_ids = new_topic_ids;
-    let new_topic_counts = g.topic_counts;
-    *topic_counts = new_topic_counts;
-    let new_target = g.target;
-    *target = new_target;
-    let new_holder = g.holder;
-    *holder = new_holder;
-    let new_waiting = g.waiting;
-    *waiting = new_waiting;
-}
-
 // A heartbeat lists the first N of the slots 0, 1 and 2.
-fn serve<'a>(
-    head: &'a mut [u32; 3],
-    members: &'a mut [u32; CELLS],
-    topic_ids: &'a mut [u8; TOPIC_BYTES],
-    topic_counts: &'a mut [u8; TOPICS],
-    target: &'a mut [u8; SLOTS],
-    holder: &'a mut [u8; SLOTS],
-    waiting: &'a mut [bool; SLOTS],
-    row: Row,
-    records: &mut [u8],
-    list: &mut [u16],
-) -> Outcome {
+fn serve(group: &mut Group, row: Row, records: &mut [u8], list: &mut [u16]) -> Outcome {
     let n = row.numbers;
-    let event = row.event;
     let held = [0u16, 1, 2];
-    let end = n[5] as usize % 4;
-    let places = entries(n[5]);
-    match event {
-        b't' => coordinator::topic(
-            head,
-            members,
-            topic_ids,
-            topic_counts,
-            0,
-            id(n[1]),
-            n[5],
-            records,
-        ),
-        b's' => coordinator::sweep(head, members, target, holder, waiting, n[3], records),
-        b'i' => coordinator::install(
-            head,
-            members,
-            topic_counts,
-            target,
-            signed(n[2]),
-            &places,
-            records,
-        ),
-        _ => coordinator::heartbeat(
-            head,
-            members,
-            target,
-            holder,
-            waiting,
-            request(row),
-            &held[0..end],
-            records,
-            list,
-        ),
+    let owned = &held[..n[5] as usize % 4];
+    match row.event {
+        b't' => coordinator::topic(group, 0, id(n[1]), n[5], records),
+        b's' => coordinator::sweep(group, n[3], records),
+        b'i' => coordinator::install(group, signed(n[2]), &entries(n[5]), records),
+        _ => coordinator::heartbeat(group, request(row), owned, records, list),
     }
 }
 
-fn run<'a, W: Write>(
+fn run<W: Write>(
     out: &mut W,
-    head: &'a mut [u32; 3],
-    members: &'a mut [u32; CELLS],
-    topic_ids: &'a mut [u8; TOPIC_BYTES],
-    topic_counts: &'a mut [u8; TOPICS],
-    target: &'a mut [u8; SLOTS],
-    holder: &'a mut [u8; SLOTS],
-    waiting: &'a mut [bool; SLOTS],
+    group: &mut Group,
     row: Row,
     records: &mut [u8],
     list: &mut [u16],
 ) -> io::Result<()> {
     let n = row.numbers;
     if row.event == b'f' {
-        renew(
-            head,
-            members,
-            topic_ids,
-            topic_counts,
-            target,
-            holder,
-            waiting,
-            n[3],
-        );
+        *group = coordinator::fresh(n[3]);
         return Ok(());
     }
     let room = n[6] as usize;
     if records.len() < room {
         return Ok(());
     }
-    let o = serve(
-        head,
-        members,
-        topic_ids,
-        topic_counts,
-        target,
-        holder,
-        waiting,
-        row,
-        &mut records[0..room],
-        list,
-    );
+    let outcome = serve(group, row, &mut records[..room], list);
     if row.has_name {
-        let a = o.answer;
-        show(
-            out,
-            a,
-            list,
-            records,
-            o.written,
-            head[EPOCH],
-            head[TARGET_EPOCH],
-        )?;
+        let shown = Shown {
+            outcome: outcome,
+            list: list,
+            records: records,
+            head: group.head,
+        };
+        writeln!(out, ": {shown}")?;
     }
     Ok(())
 }
 
 // What follows the last row is no row.
 fn run_table<W: Write>(out: &mut W, table: &[u8]) -> io::Result<()> {
-    let g = coordinator::fresh(0);
-    let mut head = g.head;
-    let mut members = g.members;
-    let mut topic_ids = g.topic_ids;
-    let mut topic_counts = g.topic_counts;
-    let mut target = g.target;
-    let mut holder = g.holder;
-    let mut waiting = g.waiting;
+    let mut group = coordinator::fresh(0);
     let mut row = empty_row();
-    let mut i: usize = 0;
-    while i < table.len() {
-        let b = table[i];
-        i += 1;
-        if b == b'\n' {
-            run(
-                out,
-                &mut head,
-                &mut members,
-                &mut topic_ids,
-                &mut topic_counts,
-                &mut target,
-                &mut holder,
-                &mut waiting,
-                row,
-                &mut [0u8; 64],
-                &mut [0u16; 8],
-            )?;
+    for b in table {
+        if *b == b'\n' {
+            run(out, &mut group, row, &mut [0u8; 64], &mut [0u16; 8])?;
             row = empty_row();
         } else {
-            row = read(out, row, b)?;
+            row = read(out, row, *b)?;
         }
     }
     Ok(())

@@ -1,7 +1,7 @@
 -- What every event's code comes to at its end: a refusal changes nothing, and an effect that no row refuses is carried out if there is room.
 use Prim.Native.Nat.{ℕ, ◌≤◌, ◌<◌}
 use native.Mathlib.Omega.{arith}
-use mathlib.Core.Path.{◌≡◌, refl, sym, ap, ◌∙◌, subst}
+use mathlib.Core.Path.{◌≡◌, refl, sym, subst}
 use mathlib.Core.List.{List, []}
 use lib.ListN.{length}
 use borrow.Author.Tests.{le-ltb, lt-ltb}
@@ -16,6 +16,8 @@ use Rattle.rules.specs.declared.Refusal.TheVariants.{Room}
 use Rattle.rules.specs.declared.Answer.{Answer}
 use Rattle.rules.specs.declared.Answer.TheVariants.{Refused}
 use Rattle.numbers.specs.Buffer.{Wrote}
+use Rattle.group.specs.declared.Group as D
+use Rattle.group.specs.View.{view}
 use Rattle.events.specs.declared.Outcome.{Outcome}
 use Rattle.events.specs.Outcomes.{took, SameIfRefused, carried, step_as}
 
@@ -24,18 +26,16 @@ use Rattle.events.specs.Outcomes.{took, SameIfRefused, carried, step_as}
 abbrev pub denied : Refusal → Group → List ℕ → List ℕ → Stepped
 denied why g b l = record { answer = Refused why; group = g; written = 0; buffer = b; list = l }
 
-module _ {r : Outcome} {why : Refusal} (e : r ≡ record { answer = Refused why; written = 0 }) where
-  pub took_refused : (g : Group) (b l : List ℕ) → took r g b l ≡ denied why g b l
-  unfolding took
-  took_refused g b l = ap (λ (x : Outcome). took x g b l) e
+-- an exit with a refusal, of the group as it was: the three parts of `Becomes`, where s is what the step makes of the group. Whatever is to be kept is kept
+pub refusal : {Kept : Type 0} {k : Kept} {why : Refusal} {g : D.Group} {b l : List ℕ} {s : Stepped} → s ≡ denied why (view g) b l
+    → SameIfRefused (Refused why) g g × (k ≡ k) × (took (record { answer = Refused why; written = 0 }) (view g) b l ≡ s)
+unfolding took
+refusal e = (refl, refl, sym e)
 
-  -- what a refusal was lent is the very value that it was
-  pub same_refused : {A : Type 0} (x : A) → SameIfRefused r.answer x x
-  same_refused x = subst (λ (o : Outcome). SameIfRefused o.answer x x) (sym e) refl
-
--- and of an answer that accepts nothing is asked
-pub same_answer : {a : Answer} {A : Type 0} (r : Outcome) (x y : A) → r.answer ≡ a → SameIfRefused a x y → SameIfRefused r.answer x y
-same_answer r x y e k = subst (λ (a : Answer). SameIfRefused a x y) (sym e) k
+-- an exit with an outcome whose answer is a
+pub acceptance : {Kept : Type 0} {k k' : Kept} {a : Answer} {s : Stepped} (r : Outcome) (g g' : D.Group) (b l : List ℕ) → r.answer ≡ a → SameIfRefused a g g' → k' ≡ k → took r (view g') b l ≡ s
+    → SameIfRefused r.answer g g' × (k' ≡ k) × (took r (view g') b l ≡ s)
+acceptance r g g' b l e h k t = (subst (λ (a : Answer). SameIfRefused a g g') (sym e) h, k, t)
 
 -- ---- heartbeats are taken as the kind of their epoch
 
@@ -43,16 +43,12 @@ pub step_kind : (g : Group) (b : Request) (buffer list : List ℕ) → step g (h
 unfolding step verdict table effect step_as
 step_kind g b buffer list = refl
 
--- ---- an effect that no row refuses: no room in the buffer, no room in the list, or carried out
+-- ---- an effect that no row refuses: no room in the buffer, or carried out
 
 module _ (f : Effect) (b l : List ℕ) (g : Group) where
-  pub no_room_records : {r : Outcome} → length b < length (all_bytes f.records) → r ≡ record { answer = Refused Room; written = 0 } → took r g b l ≡ carried g f b l
+  pub records_denied : length b < length (all_bytes f.records) → carried g f b l ≡ denied Room g b l
   unfolding carried carry_out first_of too_little_room
-  no_room_records p q = took_refused q g b l ∙ rw (lt-ltb _ _ p)
-
-  pub no_room_list : {r : Outcome} → length (all_bytes f.records) ≤ length b → length l < length f.told → r ≡ record { answer = Refused Room; written = 0 } → took r g b l ≡ carried g f b l
-  unfolding carried carry_out first_of too_little_room
-  no_room_list p h q = took_refused q g b l ∙ rw (le-ltb _ _ p, lt-ltb _ _ h)
+  records_denied p = rw (lt-ltb _ _ p)
 
   pub carried_out : (g' : Group) {w : ℕ} {b' l' : List ℕ} → length (all_bytes f.records) ≤ length b → length f.told ≤ length l
       → g' ≡ f.group → Wrote (all_bytes f.records) b b' w → l' ≡ overlay f.told l

@@ -1,5 +1,5 @@
 -- What the code's values stand for: the step that an outcome shows, and the request of the rules that a heartbeat's parameters are.
-use Rattle.std.specs.Prelude.{ℕ, ◌≡◌, Bool, List, [], ◌∷◌, ◌++◌, if◌then◌else◌}
+use Rattle.std.specs.Prelude.{ℕ, ◌≡◌, Bool, Result, Ok, Err, List, [], ◌∷◌, ◌++◌, if◌then◌else◌}
 use Rattle.std.proofs.Math.Option.{Option, none, some}
 use Rattle.rules.specs.Group as G
 use Rattle.rules.specs.Event as E
@@ -9,7 +9,13 @@ use Rattle.rules.specs.Step.{Stepped, carry_out, too_little_room}
 use Rattle.rules.specs.declared.Refusal.TheVariants.{Clock, Room}
 use Rattle.rules.specs.declared.Answer.{Answer}
 use Rattle.rules.specs.declared.Answer.TheVariants.{Assigned, Left, Swept, Done, Refused}
+use Rattle.rules.specs.declared.Refusal.{Refusal}
+use Rattle.tables.specs.declared.Tables.{Tables}
 use Rattle.tables.specs.Advances.{owned_of}
+use Rattle.group.specs.View.{view}
+use Rattle.group.specs.declared.Group.{Group}
+use Rattle.group.specs.declared.members.Members.{Members}
+use Rattle.group.specs.declared.topics.Topics.{Topics}
 use Rattle.events.specs.declared.Outcome.{Outcome}
 use Rattle.events.specs.declared.Request.{Request}
 
@@ -25,10 +31,26 @@ SameIfRefused Left before after = Unit {0}
 SameIfRefused (Swept n) before after = Unit {0}
 SameIfRefused Done before after = Unit {0}
 
--- an event that was lent a part of a group, of which `shows` says which group it is with the rest: a refusal left the part as it was, every entry of it; and
--- whatever the rest is, the answer, the group, the buffer and the list are what `step` makes of the group
-abbrev pub Becomes : {Rest Part : Type 0} → (Rest → Part → G.Group) → Outcome → Part → Part → List ℕ → List ℕ → (G.Group → Stepped) → Type 0
-Becomes {Rest} shows r before after buffer list step = SameIfRefused r.answer before after × ((rest : Rest) → took r (shows rest after) buffer list ≡ step (shows rest before))
+-- what an event's function handed back: a refusal wrote nothing
+abbrev pub outcome_of : Result Outcome Refusal → Outcome
+outcome_of (Ok r) = r
+outcome_of (Err why) = record { answer = Refused why; written = 0 }
+
+-- the answer, the group, the buffer and the list are what `step` makes of the group; a refusal left the group as it was, every entry of it; and what `kept` tells of
+-- the group, every entry of it, is as it was in any case
+abbrev pub Becomes : {Kept : Type 0} → (Group → Kept) → Outcome → Group → Group → List ℕ → List ℕ → (G.Group → Stepped) → Type 0
+Becomes kept r before after buffer list step =
+    SameIfRefused r.answer before after × (kept after ≡ kept before) × (took r (view after) buffer list ≡ step (view before))
+
+-- what the kinds of events leave, whatever they come to: a heartbeat and a sweep; a topic event; an install
+abbrev pub topics_of : Group → Topics
+topics_of g = g.topics
+
+abbrev pub members_and_tables : Group → Members × Tables
+members_and_tables g = (g.members, g.tables)
+
+abbrev pub all_but_target : Group → Members × Topics × List ℕ × List Bool
+all_but_target g = (g.members, g.topics, g.tables.holder, g.tables.waiting)
 
 abbrev pub given_subscription : Bool → ℕ → Option ℕ
 given_subscription given topics = if given then some topics else none

@@ -7,6 +7,7 @@ use rules::{Answer, NO_SLOT, Refusal};
 
 // 01's number (0: accepted); the epoch, -1 for a leave; the heartbeat interval; how many slots the answer carries or members a sweep removed; the slot
 // that is reported, or 65,535.
+// As it is: the C interface has numbers for the answers and 65,535 for no slot.
 #[repr(C)]
 #[derive(Clone, Copy)]
 pub struct Said {
@@ -16,6 +17,15 @@ pub struct Said {
     pub count: u32,
     pub slot: u16,
 }
+
+// An event that was accepted, with nothing else to say.
+const DONE: Said = Said {
+    number: 0,
+    interval: 0,
+    epoch: 0,
+    count: 0,
+    slot: NO_SLOT,
+};
 
 // 01's number of a refusal.
 pub fn number_of(r: Refusal) -> u32
@@ -42,58 +52,30 @@ pub fn slot_reported(r: Refusal) -> u16
 {
     match r {
         Refusal::BadTarget(slot) => slot.0,
-        Refusal::Clock => NO_SLOT,
-        Refusal::InvalidRequest => NO_SLOT,
-        Refusal::UnknownMemberId => NO_SLOT,
-        Refusal::GroupMaxSizeReached => NO_SLOT,
-        Refusal::FencedMemberEpoch => NO_SLOT,
-        Refusal::Stale => NO_SLOT,
-        Refusal::Already => NO_SLOT,
-        Refusal::BadTopic => NO_SLOT,
-        Refusal::EpochEnd => NO_SLOT,
-        Refusal::Room => NO_SLOT,
+        _ => NO_SLOT,
     }
 }
 
 // What an answer says.
-pub fn what_is_said(a: Answer) -> Said
-    ensures { view_said result ≡ said a }
-{
-    match a {
-        Answer::Assigned(x) => Said {
-            number: 0,
-            interval: x.interval,
-            epoch: x.epoch as i64,
-            count: x.count,
-            slot: NO_SLOT,
-        },
-        Answer::Left => Said {
-            number: 0,
-            interval: 0,
-            epoch: -1,
-            count: 0,
-            slot: NO_SLOT,
-        },
-        Answer::Swept(n) => Said {
-            number: 0,
-            interval: 0,
-            epoch: 0,
-            count: n,
-            slot: NO_SLOT,
-        },
-        Answer::Done => Said {
-            number: 0,
-            interval: 0,
-            epoch: 0,
-            count: 0,
-            slot: NO_SLOT,
-        },
-        Answer::Refused(r) => Said {
-            number: number_of(r),
-            interval: 0,
-            epoch: 0,
-            count: 0,
-            slot: slot_reported(r),
-        },
+impl From<Answer> for Said {
+    ghost from_gives = { λ a s. view_said s ≡ said a };
+
+    fn from(a: Answer) -> Said {
+        match a {
+            Answer::Assigned(x) => Said {
+                interval: x.interval,
+                epoch: x.epoch as i64,
+                count: x.count,
+                ..DONE
+            },
+            Answer::Left => Said { epoch: -1, ..DONE },
+            Answer::Swept(n) => Said { count: n, ..DONE },
+            Answer::Done => DONE,
+            Answer::Refused(r) => Said {
+                number: number_of(r),
+                slot: slot_reported(r),
+                ..DONE
+            },
+        }
     }
 }

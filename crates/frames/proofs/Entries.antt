@@ -3,13 +3,14 @@ use mathlib.Core.Path.{◌≡◌, refl, sym}
 use mathlib.Core.List.{List, [], ◌∷◌, ◌++◌, append-nil}
 use Prim.Native.Nat.{ℕ, ◌+◌, ◌≤◌, ◌<◌}
 use native.Mathlib.Omega.{arith}
-use lib.ListN.{length, length-append}
+use lib.ListN.{length, take, drop, length-append}
 use borrow.Author.Tests.{lt-ltb, le-ltb}
 use Rattle.rules.specs.Constants.{batch_limit}
 use Rattle.rules.specs.Records.{number}
 use Rattle.rules.specs.Step.{overlay}
 use Rattle.rules.specs.Journal.{entry}
-use Rattle.numbers.specs.Buffer.{Wrote, flat}
+use Rattle.numbers.specs.Buffer.{Wrote, flat, overlay_at}
+use Rattle.numbers.proofs.Writing.{Writing, begin, over_whole, put_at_lem, room₀, room_at, ended}
 use Rattle.frames.specs.Forms.{framed, if_room}
 
 pub entry_is : (w : List ℕ) → 1 ≤ length w → entry w ≡ number (length w) ++ w
@@ -22,6 +23,27 @@ entry_parts w n e h = rw (e, append-nil) (sym (entry_is w (omega arith)))
 
 pub entry_length : (w : List ℕ) → 1 ≤ length w → length (entry w) ≡ length (number (length w)) + length w
 entry_length w h = rw (entry_is w h) (length-append (number (length w)) w)
+
+-- ---- the two parts, written one after the other
+
+module _ (w b : List ℕ) (n : ℕ) (e : n ≡ length w) (some : 1 ≤ n) (fits : length (entry w) ≤ length b) where
+  at_start : Writing (entry w) b b 0 (number n ∷ w ∷ [])
+  at_start = begin _ _ _ (entry_parts w n e some) fits
+
+  pub number_fits : length (number n) ≤ length b
+  number_fits = room₀ at_start
+
+  module _ (b₁ : List ℕ) (at : ℕ) (p : Wrote (number n) b b₁ at) where
+    at_records : Writing (entry w) b b₁ at (w ∷ [])
+    at_records = put_at_lem at_start (over_whole _ _ _ _ p)
+
+    pub records_fit : at + length w ≤ length b₁
+    records_fit = room_at at_records
+
+    pub entry_written : (last : List ℕ) (k : ℕ) → last ≡ w → k ≡ length w
+        → Wrote (entry w) b (take at b₁ ++ (last ++ drop k (drop at b₁))) (at + length w)
+    unfolding overlay overlay_at
+    entry_written last k l m = ended (put_at_lem at_records record { place = refl; bytes = rw (l, m) }) refl
 
 -- ---- what is written
 

@@ -1,27 +1,53 @@
--- The heading compared byte by byte: the bytes before `i` are equal, so that the rest decides.
-use mathlib.Core.Path.{◌≡◌}
-use mathlib.Core.List.{List}
-use Prim.Native.Nat.{ℕ, ◌+◌, ◌≤◌, ◌<◌}
-use native.Mathlib.Numerals.{add-one}
-use lib.ListN.{length, get_or, drop, drop_of_length-le}
-use lib.Seq.{drop-cons}
-use borrow.Author.Tests.{eq-eqb, ne_eqb}
+-- The heading compared: a file begins with it, or ends inside it, or differs from it at some byte.
+use mathlib.Core.Path.{◌≡◌, refl, sym, ◌∙◌}
+use mathlib.Core.Bool.{Bool, true, false, ◌&&◌, true≢false}
+use mathlib.Core.List.{List, [], ◌∷◌}
+use Prim.Native.Nat.{ℕ}
+use lib.Dec.{eqb}
+use lib.ListN.{length, take, drop}
+use lib.Pointwise.{pointwise}
+use borrow.Author.Tests.{eqb-true, eq-eqb}
+use Rattle.std.specs.Prelude.{if◌then◌else◌}
 use Rattle.rules.specs.Group.{fresh}
+use Rattle.rules.proofs.Lists.{and_true}
 use Rattle.rules.specs.Journal.{Reading, read_heading, refused_at, torn_from}
 
-module _ (hs s : List ℕ) (i : ℕ) (h : i < length hs) (t : ℕ) (more : List ℕ → Reading) where
-  pub opening_cut : length s ≤ i → read_heading (drop i hs) (drop i s) t more ≡ record { group = fresh t; verdict = torn_from 0 }
-  unfolding read_heading
-  opening_cut l = rw (drop-cons hs i 0 h, drop_of_length-le s l)
+-- one list begins with the other
+abbrev pub Begins : List ℕ → List ℕ → Bool
+Begins p s = pointwise eqb p (take (length p) s)
 
-  pub opening_wrong : i < length s → (get_or hs i 0 ≡ get_or s i 0 → ⊥) → read_heading (drop i hs) (drop i s) t more ≡ record { group = fresh t; verdict = refused_at 0 }
+module _ (t : ℕ) (more : List ℕ → Reading) where
+  pub opening_right : (hs s : List ℕ) → Begins hs s ≡ true → read_heading hs s t more ≡ more (drop (length hs) s)
   unfolding read_heading
-  opening_wrong l e = rw (drop-cons hs i 0 h, drop-cons s i 0 l, ne_eqb (get_or hs i 0) (get_or s i 0) e)
+  opening_right [] s e = refl
+  opening_right (h ∷ hs) [] e = absurd (true≢false (sym e))
+  opening_right (h ∷ hs) (b ∷ s) e = go (eqb h b) e (λ q. opening_right hs s q)
+    where
+      go : (x : Bool) → (x && Begins hs s) ≡ true → (Begins hs s ≡ true → read_heading hs s t more ≡ more (drop (length hs) s))
+          → (if x then read_heading hs s t more else record { group = fresh t; verdict = refused_at 0 }) ≡ more (drop (length hs) s)
+      go true q ih = ih q
+      go false q ih = absurd (true≢false (sym q))
 
-  pub opening_goes : i < length s → get_or hs i 0 ≡ get_or s i 0 → read_heading (drop i hs) (drop i s) t more ≡ read_heading (drop (i + 1) hs) (drop (i + 1) s) t more
+  pub opening_cut : (hs s : List ℕ) → Begins hs s ≡ false → Begins s hs ≡ true → read_heading hs s t more ≡ record { group = fresh t; verdict = torn_from 0 }
   unfolding read_heading
-  opening_goes l e = rw (add-one i, drop-cons hs i 0 h, drop-cons s i 0 l, eq-eqb (get_or hs i 0) (get_or s i 0) e)
+  opening_cut [] s e f = absurd (true≢false e)
+  opening_cut (h ∷ hs) [] e f = refl
+  opening_cut (h ∷ hs) (b ∷ s) e f = go (eqb h b) refl e f (λ p q. opening_cut hs s p q)
+    where
+      go : (x : Bool) → eqb h b ≡ x → (x && Begins hs s) ≡ false → (eqb b h && Begins s hs) ≡ true
+          → (Begins hs s ≡ false → Begins s hs ≡ true → read_heading hs s t more ≡ record { group = fresh t; verdict = torn_from 0 })
+          → (if x then read_heading hs s t more else record { group = fresh t; verdict = refused_at 0 }) ≡ record { group = fresh t; verdict = torn_from 0 }
+      go true i p q ih = ih p (and_true (eqb b h) (Begins s hs) q).1
+      go false i p q ih = absurd (true≢false (sym (eq-eqb h b (sym (eqb-true b h (and_true (eqb b h) (Begins s hs) q).0))) ∙ i))
 
-pub opening_right : (hs s : List ℕ) (i : ℕ) → length hs ≤ i → (t : ℕ) (more : List ℕ → Reading) → read_heading (drop i hs) (drop i s) t more ≡ more (drop i s)
-unfolding read_heading
-opening_right hs s i l t more = rw (drop_of_length-le hs l)
+  pub opening_wrong : (hs s : List ℕ) → Begins hs s ≡ false → Begins s hs ≡ false → read_heading hs s t more ≡ record { group = fresh t; verdict = refused_at 0 }
+  unfolding read_heading
+  opening_wrong [] s e f = absurd (true≢false e)
+  opening_wrong (h ∷ hs) [] e f = absurd (true≢false f)
+  opening_wrong (h ∷ hs) (b ∷ s) e f = go (eqb h b) refl e f (λ p q. opening_wrong hs s p q)
+    where
+      go : (x : Bool) → eqb h b ≡ x → (x && Begins hs s) ≡ false → (eqb b h && Begins s hs) ≡ false
+          → (Begins hs s ≡ false → Begins s hs ≡ false → read_heading hs s t more ≡ record { group = fresh t; verdict = refused_at 0 })
+          → (if x then read_heading hs s t more else record { group = fresh t; verdict = refused_at 0 }) ≡ record { group = fresh t; verdict = refused_at 0 }
+      go true i p q ih = ih p (rw (eq-eqb b h (sym (eqb-true h b i))) at q)
+      go false i p q ih = refl

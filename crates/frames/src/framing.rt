@@ -1,45 +1,27 @@
 // What is stored: the heading, and of one event the length of its records, and the records.
-ghost use Rattle.std.specs.Prelude.{◌≡◌, ◌+◌, ◌≤◌, length};
+ghost use Rattle.std.specs.Prelude.{◌≡◌, ◌≤◌, length};
 ghost use Rattle.rules.specs.Journal.{entry, heading};
-ghost use Rattle.numbers.specs.Buffer.{Wrote, WroteAt};
+ghost use Rattle.numbers.specs.Buffer.{Wrote};
 ghost use Rattle.frames.specs.Forms.{framed, if_room};
 
 use crate::headings::{HEADING, HEADING_LENGTH};
-use numbers::{number_len, put_number_at};
+use numbers::{number_len, put_number};
 use rules::BATCH_LIMIT;
-
-// Writes `bytes` at the start of `buf` and returns how many they are.
-fn put_bytes(buf: &mut [u8], bytes: &[u8]) -> usize
-    requires { length bytes.now ≤ length buf.old }
-    ensures { Wrote bytes.now buf.old buf.new result }
-{
-    let mut i: usize = 0;
-    while i < bytes.len() {
-        buf[i] = bytes[i];
-        i += 1;
-    }
-    i
-}
-
-// Writes `bytes` at the place `at` and returns the place after them.
-fn put_bytes_at(buf: &mut [u8], at: usize, bytes: &[u8]) -> usize
-    requires { at + length bytes.now ≤ length buf.old }
-    ensures { WroteAt bytes.now at buf.old buf.new result }
-{
-    at + put_bytes(&mut buf[at..], bytes)
-}
 
 // Writes the length of a batch and the batch.
 fn put_entry(buf: &mut [u8], records: &[u8], n: u32) -> usize
     requires { (n ≡ length records.now) × (1 ≤ n) × (length (entry records.now) ≤ length buf.old) }
     ensures { Wrote (entry records.now) buf.old buf.new result }
 {
-    let at = put_number_at(buf, 0, n);
-    put_bytes_at(buf, at, records)
+    let at = put_number(buf, n);
+    let end = at + records.len();
+    buf[at..end].copy_from_slice(records);
+    end
 }
 
 // Writes what a journal stores of an event, the length of its records and the records, and returns how many bytes that is: 0, and nothing is written, if there are
 // no records, or more than any event writes, or there is no room.
+// As it is: `Wrote` promises the count of what was written, which is 0 where nothing is; hosts get that count by the C interface.
 pub fn frame(records: &[u8], journal: &mut [u8]) -> usize
     ensures { Wrote (if_room (framed records.now) journal.old) journal.old journal.new result }
 {
@@ -64,6 +46,6 @@ pub fn put_heading(journal: &mut [u8]) -> usize
     if journal.len() < HEADING_LENGTH {
         return 0;
     }
-    let fixed = HEADING;
-    put_bytes(journal, &fixed)
+    journal[..HEADING_LENGTH].copy_from_slice(&HEADING);
+    HEADING_LENGTH
 }

@@ -3,7 +3,7 @@ ghost use Rattle.std.specs.Prelude.{◌≡◌, List, ℕ};
 ghost use Rattle.rules.specs.Journal.{Reading, heading, read_heading};
 ghost use Rattle.frames.specs.Forms.{headed};
 
-use crate::Heading;
+use crate::NoHeading;
 
 // The heading, `GRJ1`.
 pub const HEADING_LENGTH: usize = 4;
@@ -11,19 +11,14 @@ pub const HEADING_LENGTH: usize = 4;
 pub const HEADING: [u8; HEADING_LENGTH] = *b"GRJ1";
 
 // Whether the bytes begin with the heading.
-pub fn read_heading(s: &[u8]) -> Heading
+pub fn read_heading(s: &[u8]) -> Result<(), NoHeading>
     ensures { (t : ℕ) (more : List ℕ → Reading) → headed result s.now t more ≡ read_heading heading s.now t more }
 {
-    let fixed = HEADING;
-    let mut i: usize = 0;
-    while i < HEADING_LENGTH {
-        if s.len() <= i {
-            return Heading::Cut;
-        }
-        if s[i] != fixed[i] {
-            return Heading::Wrong;
-        }
-        i += 1;
+    if s.starts_with(&HEADING) {
+        return Ok(());
     }
-    Heading::Right
+    if HEADING.starts_with(s) {
+        return Err(NoHeading::Cut);
+    }
+    Err(NoHeading::Wrong)
 }

@@ -3,50 +3,37 @@ ghost use Rattle.std.specs.Prelude.{◌≡◌, ◌<◌, drop};
 ghost use Rattle.rules.specs.Journal.{read_length, second_group};
 ghost use Rattle.frames.specs.Forms.{LengthAt};
 
-use crate::Length;
+use crate::NoLength;
 use rules::BATCH_LIMIT;
 
-fn wide(b: u8) -> usize
-    ensures { result ≡ b }
-{
-    b as usize
-}
-
 // The second group, after a first whose value is `low`.
-fn second_group(s: &[u8], at: usize, low: usize) -> Length
+fn second_group(s: &[u8], at: usize, low: usize) -> Result<(usize, usize), NoLength>
     requires { low < 128 }
     ensures { LengthAt s.now at (second_group low (drop at s.now)) result }
 {
-    if s.len() <= at {
-        return Length::Cut;
+    let Some(b) = s.get(at) else {
+        return Err(NoLength::Cut);
+    };
+    let n = *b as usize * 128 + low;
+    if 128 <= *b || *b == 0 || BATCH_LIMIT < n {
+        return Err(NoLength::Bad);
     }
-    let b = wide(s[at]);
-    if 128 <= b {
-        return Length::Bad;
-    }
-    if b == 0 {
-        return Length::Bad;
-    }
-    let n = b * 128 + low;
-    if BATCH_LIMIT < n {
-        return Length::Bad;
-    }
-    Length::Batch(n, at + 1)
+    Ok((n, at + 1))
 }
 
-// The length at the place `at`.
-pub fn read_length(s: &[u8], at: usize) -> Length
+// The length at the place `at`, and the place after it.
+pub fn read_length(s: &[u8], at: usize) -> Result<(usize, usize), NoLength>
     ensures { LengthAt s.now at (read_length (drop at s.now)) result }
 {
-    if s.len() <= at {
-        return Length::End;
+    let Some(b) = s.get(at) else {
+        return Err(NoLength::End);
+    };
+    let first = *b as usize;
+    if 128 <= first {
+        return second_group(s, at + 1, first - 128);
     }
-    let b = wide(s[at]);
-    if 128 <= b {
-        return second_group(s, at + 1, b - 128);
+    if first == 0 {
+        return Err(NoLength::Bad);
     }
-    if b == 0 {
-        return Length::Bad;
-    }
-    Length::Batch(b, at + 1)
+    Ok((first, at + 1))
 }

@@ -2,6 +2,9 @@
 // read at a place of the caller's bytes. Any bytes get an answer.
 #![tactic(auto)]
 
+ghost use Rattle.std.specs.Prelude.{◌≡◌};
+ghost use Rattle.frames.specs.Forms.{damage_of};
+
 mod extents; // extents.rt: where a batch stands, and the torn tail
 mod framing; // framing.rt: what is stored: the heading, and of each event its records
 mod headings; // headings.rt: the heading, compared
@@ -11,36 +14,44 @@ pub use extents::{read_extent, torn_tail};
 pub use framing::{frame, put_heading};
 pub use headings::{HEADING_LENGTH, read_heading};
 
-// How a file begins: with the heading, with something else, or it ends inside the heading.
-#[derive(Clone, Copy)]
-pub enum Heading {
-    Right,
+// No heading: the file begins with something else, or it ends inside the heading.
+#[derive(Clone, Copy, Debug, PartialEq, Eq)]
+pub enum NoHeading {
     Wrong,
     Cut,
 }
 
-// The length of a batch and the place after it; or the end of the file, its end inside the length, or no length.
-#[derive(Clone, Copy)]
-pub enum Length {
-    Batch(usize, usize),
+// No length of a batch: the end of the file, its end inside the length, or something else.
+#[derive(Clone, Copy, Debug, PartialEq, Eq)]
+pub enum NoLength {
     End,
     Cut,
     Bad,
 }
 
-// What stands where a length would: a batch, from its first byte to the place after it; the end of the file; a batch that the file ends in; or no length.
-#[derive(Clone, Copy)]
-pub enum Extent {
-    Batch(usize, usize),
+// No batch: the end of the file, its end inside the length or the batch, or no length.
+#[derive(Clone, Copy, Debug, PartialEq, Eq)]
+pub enum NoBatch {
     End,
     Torn,
     Bad,
 }
 
-// What a reading says of a file: it is whole, or refused at an offset, or its torn tail starts there.
-#[derive(Clone, Copy)]
-pub enum Verdict {
-    Whole,
+// What is wrong with a file: it is refused at an offset, or its torn tail starts there.
+#[derive(Clone, Copy, Debug, PartialEq, Eq)]
+pub enum Damage {
     RefusedAt(usize),
     TornFrom(usize),
+}
+
+// A file that begins with something else is refused, and one that ends inside the heading is torn, each from its first byte on.
+impl From<NoHeading> for Damage {
+    ghost from_gives = { λ why damage. damage ≡ damage_of why };
+
+    fn from(why: NoHeading) -> Damage {
+        match why {
+            NoHeading::Wrong => Damage::RefusedAt(0),
+            NoHeading::Cut => Damage::TornFrom(0),
+        }
+    }
 }

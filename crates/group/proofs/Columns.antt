@@ -1,5 +1,5 @@
 -- The members that the columns stand for: at a place, with a place changed, and searched by words.
-use Rattle.std.specs.Prelude.{if◌then◌else◌}
+use Rattle.std.specs.Prelude.{None, Some, if◌then◌else◌}
 use Rattle.std.proofs.Common.{◌≡◌, ℕ, zero, suc, ◌+◌, ◌%◌, ◌<◌, ◌≤◌, Bool, true, false, not, ◌&&◌, eqb, ltb, List, [], ◌∷◌, length, get_or, set, sym, refl, ap, ◌∙◌, subst, zero-add, arith, get_or-set_other, get_or-set_same, le-ltb, lt-ltb, ne_eqb, eqb-true}
 use native.Mathlib.Decide.{dec_lt}
 use mathlib.Core.Option.{Option, none, some}
@@ -12,16 +12,14 @@ use Rattle.rules.specs.Group.{is_member, vacant}
 use Rattle.rules.specs.Refusals.{zero_id}
 use Rattle.rules.proofs.Lists.{and_true}
 use Rattle.tables.proofs.Lists.{any_off}
-use Rattle.search.specs.Places.{matches, First, id_of, first_word}
+use Rattle.search.specs.Places.{matches, First, FirstPlace, id_of, first_word}
 use Rattle.search.proofs.Placing.{find_at, same_words}
 use Rattle.group.specs.declared.Seat.{Seat}
 use Rattle.group.specs.View.{view_seat, seated}
-use Rattle.group.specs.Columns.{column_count, cell_count, cell_of, cell, Fits, member_of, view_place, view_members, vacant_seat, seat_at, put_all, cells_of, put_at}
+use Rattle.group.specs.Columns.{column_count, cell_count, cell_of, cell, Fits, member_of, view_place, view_members, no_numbers, numbers_at, seat_at, put_all, cells_of, put_at}
 use Rattle.group.specs.Members.{heard_at}
-use Rattle.group.specs.Searches.{Finds, Ended}
+use Rattle.group.specs.Searches.{Hit}
 use Rattle.group.specs.Words.{all_zero}
-use Rattle.group.specs.declared.Found.{Found}
-use Rattle.group.specs.declared.Found.TheVariants.{At, Nowhere}
 use Rattle.group.proofs.Putting.{all_far, all_before, all_same, made_at, made_set, made_long}
 
 -- ---- words of no ID
@@ -66,15 +64,15 @@ past_set : (ms : List ℕ) (k : ℕ) (x : Option G.Member) → max_members ≤ k
 past_set ms k x h = sym (set_out (view_members ms) k x (subst (λ (n : ℕ). n ≤ k) (sym (members_long ms)) h))
 
 seat_in : (ms : List ℕ) (k : ℕ) → ltb k max_members ≡ true → view_seat (seat_at ms k) ≡ view_place ms k
-unfolding view_seat seat_at view_place member_of matches
+unfolding seat_at numbers_at view_place member_of matches
 seat_in ms k h = rw h (go (all_zero (cell ms 0 k) (cell ms 1 k) (cell ms 2 k) (cell ms 3 k)) _)
   where
-    go : (z : Bool) (m : G.Member) → (if not z then some m else none) ≡ (if z then none else some m)
-    go true m = refl
-    go false m = refl
+    go : (z : Bool) (s : Seat) → view_seat (if not z then Some s else None) ≡ (if z then none else some (seated s))
+    go true s = refl
+    go false s = refl
 
 seat_past : (ms : List ℕ) (k : ℕ) → ltb k max_members ≡ false → view_seat (seat_at ms k) ≡ none
-unfolding view_seat seat_at
+unfolding seat_at
 seat_past ms k h = rw h
 
 -- the seat that is gathered at a place stands for the member there
@@ -84,6 +82,34 @@ seat_is ms k = go (dec_lt k max_members)
     go : Dec (k < max_members) → view_seat (seat_at ms k) ≡ get_or (view_members ms) k none
     go (yes h) = seat_in ms k (lt-ltb k max_members h) ∙ sym (member_at_lem ms k h)
     go (no h) = let q : max_members ≤ k = omega arith in seat_past ms k (le-ltb k max_members q) ∙ sym (past_members ms k q)
+
+-- by the case of the answer
+module _ (ms : List ℕ) (k : ℕ) where
+  pub seat_there : {s : Seat} → seat_at ms k ≡ Some s → get_or (view_members ms) k none ≡ some (seated s)
+  seat_there e = sym (seat_is ms k) ∙ ap view_seat e
+
+  -- its numbers are those at the place
+  pub seat_numbers : {s : Seat} → seat_at ms k ≡ Some s → s ≡ numbers_at ms k
+  unfolding seat_at
+  seat_numbers {s} e = go (ltb k max_members && not (matches ms 0 0 0 0 k)) e
+    where
+      go : (b : Bool) → (if b then Some (numbers_at ms k) else None) ≡ Some s → s ≡ numbers_at ms k
+      go true q = cc
+      go false q = cc
+
+-- single numbers: of a column at a place, and 0 past the last place
+module _ (ms : List ℕ) (k : ℕ) where
+  either : (f : Seat → ℕ) (b : Bool) (s t : Seat) → (if b then f s else f t) ≡ f (if b then s else t)
+  either f true s t = refl
+  either f false s t = refl
+
+  pub heard_number : (if ltb k max_members then cell ms 7 k else 0) ≡ (numbers_at ms k).heard
+  unfolding numbers_at
+  heard_number = either (λ s. s.heard) (ltb k max_members) _ _
+
+  pub revoked_number : (if ltb k max_members then cell ms 8 k else 0) ≡ (numbers_at ms k).revoked_at
+  unfolding numbers_at
+  revoked_number = either (λ s. s.revoked_at) (ltb k max_members) _ _
 
 -- ---- a place changed
 
@@ -115,9 +141,9 @@ module _ (ms : List ℕ) (p : ℕ) (n : length ms ≡ cell_count) where
       λ i. member_of (z 0 (omega arith) i) (z 1 (omega arith) i) (z 2 (omega arith) i) (z 3 (omega arith) i) (z 4 (omega arith) i) (z 5 (omega arith) i) (z 6 (omega arith) i) (z 7 (omega arith) i) (z 8 (omega arith) i)
 
   -- nine zeros: nobody
-  pub vacated_is : view_members (put_at ms p (cells_of 0 0 0 0 vacant_seat)) ≡ set (view_members ms) p none
+  pub vacated_is : view_members (put_at ms p (cells_of 0 0 0 0 no_numbers)) ≡ set (view_members ms) p none
   unfolding member_of
-  vacated_is = at_place ms p (cells_of 0 0 0 0 vacant_seat) none (λ h. placed_cells 0 0 0 0 vacant_seat h)
+  vacated_is = at_place ms p (cells_of 0 0 0 0 no_numbers) none (λ h. placed_cells 0 0 0 0 no_numbers h)
 
   -- the words of an ID that is not zero and the numbers of a seat: the seat's member
   pub put_is : (a b c d : ℕ) (s : Seat) → id_of a b c d ≡ s.id → zero_id s.id ≡ false → s.subscription < subscription_count → view_members (put_at ms p (cells_of a b c d s)) ≡ set (view_members ms) p (some (seated s))
@@ -155,16 +181,17 @@ heard_past ms p tick h = past_set ms p (heard_at tick (get_or (view_members ms) 
 
 -- ---- searched by words
 
-module _ (ms : List ℕ) (f : Option G.Member → Bool) (t : ℕ → Bool) (is : (k : ℕ) → k < max_members → f (view_place ms k) ≡ t k) (r : ℕ) (first : First t r) where
-  before : (k : ℕ) → k < r → f (get_or (view_members ms) k none) ≡ false
-  before k q = ap f (member_at_lem ms k (omega (arith, first.most))) ∙ is k (omega (arith, first.most)) ∙ first.before k q
+module _ (ms : List ℕ) (f : Option G.Member → Bool) (t : ℕ → Bool) (is : (k : ℕ) → k < max_members → f (view_place ms k) ≡ t k) where
+  before : (r : ℕ) → First t r → (k : ℕ) → k < r → f (get_or (view_members ms) k none) ≡ false
+  before r first k q = ap f (member_at_lem ms k (omega (arith, first.most))) ∙ is k (omega (arith, first.most)) ∙ first.before k q
 
-  pub finds : (x : Found) → Ended r x → Finds (any f (view_members ms)) (find f (view_members ms)) x
-  unfolding Finds Ended
-  finds (At p) e =
-      let i = find_at f none (view_members ms) r (omega (arith, members_long ms, e.1)) before (ap f (member_at_lem ms r e.1) ∙ is r e.1 ∙ first.there e.1) in
-      record { found = i.1; first = i.0 ∙ sym e.0; below = omega (arith, e.0, e.1) }
-  finds Nowhere e = any_off none f (view_members ms) (λ i q. before i (omega (arith, members_long ms, e)))
+  pub finds : {r : ℕ} → FirstPlace t (Some r) → Hit (any f (view_members ms)) (find f (view_members ms)) r
+  finds {r} e =
+      let i = find_at f none (view_members ms) r (omega (arith, members_long ms, e.0)) (before r e.1) (ap f (member_at_lem ms r e.0) ∙ is r e.0 ∙ e.1.there e.0) in
+      record { found = i.1; first = i.0; below = e.0 }
+
+  pub finds_none : FirstPlace t None → any f (view_members ms) ≡ false
+  finds_none e = any_off none f (view_members ms) (λ i q. before max_members e i (omega (arith, members_long ms)))
 
 -- nobody's words are zero
 pub vacant_is : (ms : List ℕ) (k : ℕ) → vacant (view_place ms k) ≡ matches ms 0 0 0 0 k

@@ -1,21 +1,24 @@
--- The entries of an install: the test over two lists of numbers and the wanted topics is the rules' test of the group, and a loop finds the first that it
--- refuses.
--- Assumes nothing.
-use Rattle.std.specs.Prelude.{if◌then◌else◌}
-use Rattle.std.proofs.Common.{◌≡◌, ℕ, suc, ◌+◌, ◌/◌, ◌%◌, ◌^◌, ◌<◌, ◌≤◌, Bool, true, false, not, ◌&&◌, ◌||◌, eqb, List, [], ◌∷◌, map, length, get_or, drop, sym, refl, ap, ◌∙◌, subst, ap₂, add-one, arith, drop_of_length-le, drop-cons, pow_pos, pow_mono}
+-- The entries of an install: the test over two lists of numbers and the wanted topics is the rules' test of the group, and the library's search finds the first
+-- that it refuses. Assumes nothing.
+use Rattle.std.specs.Prelude.{None, Some, if◌then◌else◌}
+use Rattle.std.specs.Prelude as P
+use Rattle.std.specs.List.{list_any, position_from, enumerate_from, fold}
+use Rattle.std.proofs.Common.{◌≡◌, ℕ, suc, ◌+◌, ◌/◌, ◌%◌, ◌^◌, ◌<◌, ◌≤◌, Bool, true, false, ◌&&◌, ◌||◌, List, [], ◌∷◌, map, length, get_or, sym, refl, ap, ◌∙◌, ap₂, add-one, arith, pow_pos, pow_mono}
 use native.Mathlib.Nat.{div-eq_of_lt}
 use mathlib.Core.Bool.{or-false, or_assoc}
 use mathlib.Core.Option.{Option, none, some}
 use lib.ListN.{get_or-map}
 use lib.Bits.{bit_or}
 use Rattle.rules.specs.Basics.{any, first_with}
-use Rattle.rules.specs.Constants.{max_partitions, no_place, topic_count}
+use Rattle.rules.specs.Constants.{max_partitions, topic_count}
 use Rattle.rules.specs.Group as G
 use Rattle.rules.specs.Group.{includes_topic, subscribes, below_count, exists}
 use Rattle.rules.specs.Refusals.{bad_entry, first_bad, left_over, misplaced}
 use Rattle.slots.proofs.Bits.{bit_or_lem}
-use Rattle.group.specs.View.{view_topics}
-use Rattle.group.specs.Entries.{Wanted, entry_bad, slot_exists, subscription_of}
+use Rattle.group.specs.declared.Group.{Group}
+use Rattle.group.specs.Columns.{view_members}
+use Rattle.group.specs.View.{view}
+use Rattle.group.specs.Entries.{Wanted, FirstBad, entry_bad, slot_exists, subscription_of}
 use Rattle.group.specs.Topics.{id_at}
 use Rattle.group.proofs.Numbering.{topic_at, below_is}
 
@@ -38,25 +41,6 @@ unfolding subscribes subscription_of
 subscribes_is t none = sym (none_subscribed t)
 subscribes_is t (some m) = refl
 
--- the topics of those that were passed and of what is left
-pub union_next : (t w : ℕ) (l : List ℕ) (i : ℕ) → i < length l
-    → includes_topic t (bit_or w (get_or l i 0)) || any (includes_topic t) (drop (i + 1) l) ≡ includes_topic t w || any (includes_topic t) (drop i l)
-unfolding includes_topic
-union_next t w l i h = rw (add-one i, drop-cons l i 0 h, bit_or_lem w (get_or l i 0) t, or_assoc)
-
-pub union_end : (t w : ℕ) (l : List ℕ) (i : ℕ) → length l ≤ i → includes_topic t w || any (includes_topic t) (drop i l) ≡ includes_topic t w
-union_end t w l i h = rw (drop_of_length-le l h, or-false)
-
--- ---- an entry at a slot that does not exist
-
-none_only : (b : Bool) → not b ≡ (if b then false else true)
-none_only true = refl
-none_only false = refl
-
-pub no_slot : (cs ss : List ℕ) (w s e : ℕ) → slot_exists cs s ≡ false → not (eqb e no_place) ≡ entry_bad cs ss w s e
-unfolding entry_bad
-no_slot cs ss w s e h = rw h (none_only (eqb e no_place))
-
 -- ---- the two lists, of a group that has these counts and these members
 
 pub subscriptions_at : (l : List (Option G.Member)) (p : ℕ) → get_or (map subscription_of l) p 0 ≡ subscription_of (get_or l p none)
@@ -72,48 +56,80 @@ and_turn true b c = refl
 and_turn false true c = refl
 and_turn false false c = refl
 
-module _ (g : G.Group) (ids cs : List ℕ) (n : length cs ≡ topic_count) (topics : g.topics ≡ view_topics ids cs) where
-  exists_is : (s : ℕ) → exists g s ≡ slot_exists cs s
-  unfolding exists slot_exists
+module _ (g : Group) (n : length g.topics.counts ≡ topic_count) where
+  -- the subscription at each place
+  abbrev pub subscribed : List ℕ
+  subscribed = map subscription_of (view_members g.members.cells)
+
+  exists_is : (s : ℕ) → exists (view g) s ≡ slot_exists g.topics.counts s
+  unfolding exists slot_exists view
   exists_is s =
-      ap (λ (l : List (Option G.Topic)). below_count (s % max_partitions) (get_or l (s / max_partitions) none)) topics
-      ∙ ap (below_count (s % max_partitions)) (topic_at ids cs (s / max_partitions) n)
-      ∙ below_is (s % max_partitions) (id_at ids (s / max_partitions)) (get_or cs (s / max_partitions) 0)
+      ap (below_count (s % max_partitions)) (topic_at g.topics.ids g.topics.counts (s / max_partitions) n)
+      ∙ below_is (s % max_partitions) (id_at g.topics.ids (s / max_partitions)) (get_or g.topics.counts (s / max_partitions) 0)
 
-  subscriber_is : (t p : ℕ) → subscribes t (get_or g.members p none) ≡ includes_topic t (get_or (map subscription_of g.members) p 0)
-  subscriber_is t p = subscribes_is t (get_or g.members p none) ∙ ap (includes_topic t) (sym (subscriptions_at g.members p))
+  subscriber_is : (t p : ℕ) → subscribes t (get_or (view g).members p none) ≡ includes_topic t (get_or subscribed p 0)
+  unfolding view
+  subscriber_is t p =
+      subscribes_is t (get_or (view_members g.members.cells) p none)
+      ∙ ap (includes_topic t) (sym (subscriptions_at (view_members g.members.cells) p))
 
-  module _ (rule : Bool) (w : ℕ) (is : Wanted rule (map subscription_of g.members) w) where
-    entry_is : (s e : ℕ) → entry_bad cs (map subscription_of g.members) w s e ≡ bad_entry rule g s e
+  subscribers_are : (t : ℕ) → any (subscribes t) (view g).members ≡ any (includes_topic t) subscribed
+  unfolding view
+  subscribers_are t = any_is t (view_members g.members.cells)
+
+  module _ (rule : Bool) (w : ℕ) (is : Wanted rule subscribed w) where
+    entry_is : (s e : ℕ) → entry_bad g.topics.counts subscribed w s e ≡ bad_entry rule (view g) s e
     unfolding entry_bad bad_entry misplaced left_over
-    entry_is s e = rw (exists_is s, subscriber_is (s / max_partitions) e, any_is (s / max_partitions) g.members, is (s / max_partitions), and_turn rule _ _)
+    entry_is s e = rw (exists_is s, subscriber_is (s / max_partitions) e, subscribers_are (s / max_partitions), is (s / max_partitions), and_turn rule _ _)
 
-    first_is : (s : ℕ) (es : List ℕ) → first_with (entry_bad cs (map subscription_of g.members) w) s es ≡ first_with (bad_entry rule g) s es
+    first_is : (s : ℕ) (es : List ℕ) → first_with (entry_bad g.topics.counts subscribed w) s es ≡ first_with (bad_entry rule (view g)) s es
     unfolding first_with
     first_is s [] = refl
     first_is s (e ∷ es) = ap₂ (λ (b : Bool) (m : ℕ). if b then s else m) (entry_is s e) (first_is (suc s) es)
 
-  pub first_bad_is : (l : List (Option G.Member)) → g.members ≡ l → (rule : Bool) (w : ℕ) → Wanted rule (map subscription_of l) w → (es : List ℕ)
-      → first_with (entry_bad cs (map subscription_of l) w) 0 es ≡ first_bad rule g es
-  unfolding first_bad
-  first_bad_is l e rule w is es =
-      ap (λ (m : List (Option G.Member)). first_with (entry_bad cs (map subscription_of m) w) 0 es) (sym e)
-      ∙ first_is rule w (subst (λ (m : List (Option G.Member)). Wanted rule (map subscription_of m) w) (sym e) is) 0 es
+    pub first_bad_is : (es : List ℕ) → first_with (entry_bad g.topics.counts subscribed w) 0 es ≡ first_bad rule (view g) es
+    unfolding first_bad
+    first_bad_is es = first_is 0 es
 
--- ---- the loop
+-- ---- the library's searches and sums, as the rules' own
+
+-- the first entry that a test refuses, of the entries with their slots
+FirstFrom : (ℕ → ℕ → Bool) → ℕ → List ℕ → P.Option ℕ → Type 0
+FirstFrom bad n es None = first_with bad n es ≡ n + length es
+FirstFrom bad n es (Some s) = (s < n + length es) × (first_with bad n es ≡ s)
 
 module _ (bad : ℕ → ℕ → Bool) where
-  first_next : (s : ℕ) (l : List ℕ) (i : ℕ) → i < length l → first_with bad s (drop i l) ≡ (if bad s (get_or l i 0) then s else first_with bad (suc s) (drop (suc i) l))
-  unfolding first_with
-  first_next s l i p = ap (first_with bad s) (drop-cons l i 0 p)
+  first_from : (n : ℕ) (es : List ℕ) → FirstFrom bad n es (position_from (λ (e : ℕ × ℕ). bad e.0 e.1) n (enumerate_from n es))
+  unfolding FirstFrom first_with
+  first_from n [] = omega arith
+  first_from n (e ∷ es) = go (bad n e) refl (first_from (n + 1) es)
+    where
+      later : (r : P.Option ℕ) → bad n e ≡ false → FirstFrom bad (n + 1) es r → FirstFrom bad n (e ∷ es) r
+      later None f h = rw f (rw (add-one n) at h ∙ omega arith)
+      later (Some s) f h = (omega (arith, h.0), rw f (rw (add-one n) at h.1))
 
-  module _ (s : ℕ) (l : List ℕ) where
-    pub first_found : s < length l → bad s (get_or l s 0) ≡ true → first_with bad s (drop s l) ≡ s
-    first_found p h = first_next s l s p ∙ rw h
+      go : (b : Bool) → bad n e ≡ b → FirstFrom bad (n + 1) es (position_from (λ (e : ℕ × ℕ). bad e.0 e.1) (n + 1) (enumerate_from (n + 1) es))
+          → FirstFrom bad n (e ∷ es) (if b then Some n else position_from (λ (e : ℕ × ℕ). bad e.0 e.1) (n + 1) (enumerate_from (n + 1) es))
+      go true f h = (omega arith, rw f)
+      go false f h = later (position_from (λ (e : ℕ × ℕ). bad e.0 e.1) (n + 1) (enumerate_from (n + 1) es)) f h
 
-    pub first_later : s < length l → bad s (get_or l s 0) ≡ false → first_with bad (s + 1) (drop (s + 1) l) ≡ first_with bad s (drop s l)
-    first_later p h = sym (first_next s l s p ∙ rw (h, add-one s))
+  -- by a test that says the same of these entries as row 1006
+  pub first_in : (rule : Bool) (g : G.Group) (es : List ℕ) → first_with bad 0 es ≡ first_bad rule g es
+      → (r : P.Option ℕ) → r ≡ position_from (λ (e : ℕ × ℕ). bad e.0 e.1) 0 (enumerate_from 0 es) → FirstBad rule g es r
+  unfolding FirstFrom
+  first_in rule g es same r e = rw e (go (position_from (λ (e : ℕ × ℕ). bad e.0 e.1) 0 (enumerate_from 0 es)) (first_from 0 es))
+    where
+      go : (r : P.Option ℕ) → FirstFrom bad 0 es r → FirstBad rule g es r
+      go None f = sym same ∙ f ∙ omega arith
+      go (Some s) f = (omega (arith, f.0), sym same ∙ f.1)
 
-    pub first_none : length l ≤ s → first_with bad s (drop s l) ≡ s
-    unfolding first_with
-    first_none p = rw (drop_of_length-le l p)
+-- whether some member subscribes to a topic
+pub any_subscribed : (t : ℕ) (l : List (Option G.Member)) → list_any (includes_topic t) (map subscription_of l) ≡ any (subscribes t) l
+any_subscribed t [] = refl
+any_subscribed t (m ∷ l) = ap₂ (λ (x y : Bool). x || y) (sym (subscribes_is t m)) (any_subscribed t l)
+
+-- a topic is in the union of w and of the subscriptions of a list exactly where it is in one of them
+pub in_union : (t w : ℕ) (l : List ℕ) → includes_topic t (fold bit_or w l) ≡ includes_topic t w || any (includes_topic t) l
+unfolding includes_topic
+in_union t w [] = sym (or-false (includes_topic t w))
+in_union t w (s ∷ l) = in_union t (bit_or w s) l ∙ ap (λ (b : Bool). b || any (includes_topic t) l) (bit_or_lem w s t) ∙ or_assoc (includes_topic t w) (includes_topic t s) (any (includes_topic t) l)

@@ -1,11 +1,9 @@
 pub mod Bytes
 pub mod Columns
-pub mod Filling
 pub mod Finding
 pub mod Installing
 pub mod Numbering
 pub mod PlaceTests
 pub mod Putting
 pub mod Rows
-pub mod Signed
 pub mod Spelling

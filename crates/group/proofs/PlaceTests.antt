@@ -1,58 +1,63 @@
--- Whoever is at a place, read from the columns: whether somebody is, and whether a sweep removes it. Assumes nothing.
-use Rattle.std.specs.Prelude.{if◌then◌else◌}
-use Rattle.std.proofs.Common.{◌≡◌, ℕ, ◌%◌, ◌<◌, Bool, true, false, not, ◌&&◌, ◌||◌, leb, List, get_or, sym, refl, ap, ◌∙◌}
+-- Whoever is at a place, by the numbers that stand there: whether somebody is, and whether a sweep removes it. Assumes nothing.
+use Rattle.std.specs.Prelude.{None, Some}
+use Rattle.std.specs.Prelude as P
+use Rattle.std.proofs.Common.{◌≡◌, ℕ, ◌<◌, Bool, true, false, not, ◌&&◌, ◌||◌, leb, List, get_or, sym, refl, ap, ◌∙◌, true≢false}
 use mathlib.Core.Bool.{and-false, and-true, false≢true}
 use mathlib.Core.Option.{Option, none, some}
-use Rattle.rules.specs.Constants.{max_members, subscription_count, session_timeout}
+use Rattle.rules.specs.Constants.{max_members, session_timeout}
 use Rattle.rules.specs.Effects.{due}
 use Rattle.rules.specs.Group as G
 use Rattle.rules.specs.Group.{elapsed, vacant}
-use Rattle.search.specs.Places.{id_of}
-use Rattle.group.specs.Columns.{cell, member_of, view_place, view_members}
+use Rattle.search.specs.Places.{matches}
+use Rattle.group.specs.Columns.{cell, numbers_at, seat_at, view_members}
+use Rattle.group.specs.View.{view_seat, seated}
 use Rattle.group.specs.Words.{all_zero}
-use Rattle.group.proofs.Columns.{member_at_lem}
-
-module _ (ms : List ℕ) (k : ℕ) where
-  -- whoever has these columns
-  abbrev pub whoever : G.Member
-  whoever = record {
-    id = id_of (cell ms 0 k) (cell ms 1 k) (cell ms 2 k) (cell ms 3 k);
-    epoch = cell ms 4 k;
-    subscription = cell ms 5 k % subscription_count;
-    timeout = cell ms 6 k;
-    heard = cell ms 7 k;
-    revoked_at = cell ms 8 k;
-  }
-
-  -- its clocks: not heard for the session timeout, or giving slots back for longer than its own timeout
-  abbrev pub late : ℕ → Bool → Bool
-  late tick revokes = leb session_timeout (elapsed tick (cell ms 7 k)) || (revokes && leb (cell ms 6 k) (elapsed tick (cell ms 8 k)))
-
-  module _ (h : k < max_members) where
-    at_place : get_or (view_members ms) k none ≡ (if all_zero (cell ms 0 k) (cell ms 1 k) (cell ms 2 k) (cell ms 3 k) then none else some whoever)
-    unfolding view_place member_of
-    at_place = member_at_lem ms k h
-
-    pub vacant_is : vacant (get_or (view_members ms) k none) ≡ all_zero (cell ms 0 k) (cell ms 1 k) (cell ms 2 k) (cell ms 3 k)
-    unfolding vacant
-    vacant_is = ap vacant at_place ∙ go (all_zero (cell ms 0 k) (cell ms 1 k) (cell ms 2 k) (cell ms 3 k))
-      where
-        go : (z : Bool) → vacant (if z then none else some whoever) ≡ z
-        go true = refl
-        go false = refl
-
-    pub somebody : vacant (get_or (view_members ms) k none) ≡ false → get_or (view_members ms) k none ≡ some whoever
-    somebody e = at_place ∙ ap (λ (z : Bool). if z then none else some whoever) (sym vacant_is ∙ e)
-
-    pub due_is : (tick : ℕ) (revokes : Bool) → due tick revokes (get_or (view_members ms) k none) ≡ (late tick revokes && not (vacant (get_or (view_members ms) k none)))
-    unfolding due
-    due_is tick revokes = ap (due tick revokes) at_place ∙ go (all_zero (cell ms 0 k) (cell ms 1 k) (cell ms 2 k) (cell ms 3 k)) ∙ ap (λ (z : Bool). late tick revokes && not z) (sym vacant_is)
-      where
-        go : (z : Bool) → due tick revokes (if z then none else some whoever) ≡ (late tick revokes && not z)
-        go true = sym (and-false (late tick revokes))
-        go false = sym (and-true (late tick revokes))
+use Rattle.group.specs.declared.Seat.{Seat}
+use Rattle.group.proofs.Columns as C
+use Rattle.group.proofs.Columns.{member_at_lem, seat_is, seat_there, seat_numbers}
 
 pub nobody : (m : Option G.Member) → vacant m ≡ true → m ≡ none
 unfolding vacant
 nobody none e = refl
 nobody (some m) e = absurd (false≢true e)
+
+sits : (r : P.Option Seat) → vacant (view_seat r) ≡ false → (s : Seat) × (r ≡ Some s)
+unfolding vacant
+sits None e = absurd (true≢false e)
+sits (Some s) e = (s, refl)
+
+stands_empty : (r : P.Option Seat) → vacant (view_seat r) ≡ true → r ≡ None
+unfolding vacant
+stands_empty None e = refl
+stands_empty (Some s) e = absurd (false≢true e)
+
+module _ (ms : List ℕ) (k : ℕ) where
+  abbrev there : Option G.Member
+  there = get_or (view_members ms) k none
+
+  pub vacant_is : k < max_members → vacant there ≡ all_zero (cell ms 0 k) (cell ms 1 k) (cell ms 2 k) (cell ms 3 k)
+  unfolding matches
+  vacant_is h = ap vacant (member_at_lem ms k h) ∙ C.vacant_is ms k
+
+  -- the seat that is gathered there
+  pub seat_none : vacant there ≡ true → seat_at ms k ≡ None
+  seat_none e = stands_empty (seat_at ms k) (ap vacant (seat_is ms k) ∙ e)
+
+  pub seat_some : vacant there ≡ false → seat_at ms k ≡ Some (numbers_at ms k)
+  seat_some e = let s = sits (seat_at ms k) (ap vacant (seat_is ms k) ∙ e) in s.1 ∙ ap Some (seat_numbers ms k s.1)
+
+  -- whoever is there has the numbers that stand there
+  pub somebody : vacant there ≡ false → there ≡ some (seated (numbers_at ms k))
+  somebody e = seat_there ms k (seat_some e)
+
+  -- its clocks: not heard for the session timeout, or giving slots back for longer than its own timeout
+  abbrev pub late : ℕ → Bool → Bool
+  late tick revokes = let s = numbers_at ms k in leb session_timeout (elapsed tick s.heard) || (revokes && leb s.timeout (elapsed tick s.revoked_at))
+
+  pub due_is : (tick : ℕ) (revokes : Bool) → due tick revokes there ≡ (late tick revokes && not (vacant there))
+  unfolding due
+  due_is tick revokes = go (vacant there) refl
+    where
+      go : (v : Bool) → vacant there ≡ v → due tick revokes there ≡ (late tick revokes && not v)
+      go true e = ap (due tick revokes) (nobody there e) ∙ sym (and-false (late tick revokes))
+      go false e = ap (due tick revokes) (somebody e) ∙ sym (and-true (late tick revokes))

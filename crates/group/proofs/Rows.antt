@@ -1,8 +1,7 @@
 -- What follows where a row of the table does not apply. Assumes nothing.
 use Rattle.std.specs.Prelude.{if◌then◌else◌}
-use Rattle.std.proofs.Common.{◌≡◌, ℕ, suc, ◌<◌, ◌≤◌, Bool, true, false, not, ◌&&◌, ltb, leb, List, refl, arith, ltb-false, le-ltb, lt-ltb, le-leb, leb-false}
-use native.Mathlib.Decide.{dec_lt}
-use borrow.Author.Tests.{eqb-false, lt-leb}
+use Rattle.std.proofs.Common.{◌≡◌, ℕ, suc, ◌<◌, ◌≤◌, Bool, true, false, ◌&&◌, leb, List, refl, arith, ltb-false, lt-ltb, leb-false}
+use borrow.Author.Tests.{eqb-false}
 use Rattle.rules.specs.Constants.{topic_count, max_partitions, last_epoch}
 use Rattle.rules.specs.Group.{Group, raised}
 use Rattle.rules.specs.Refusals.{topic_bad}
@@ -29,11 +28,3 @@ raised_below e h = rw (lt-ltb e last_epoch (leb-false last_epoch e h))
 pub raised_if : (raises : Bool) (e : ℕ) → (raises && leb last_epoch e) ≡ false → (if raises then raised e else e) ≡ (if raises then suc e else e)
 raised_if true e h = raised_below e h
 raised_if false e h = refl
-
--- the two ways to compare
-pub not_leb : (a b : ℕ) → ltb b a ≡ not (leb a b)
-not_leb a b = go (dec_lt b a)
-  where
-    go : Dec (b < a) → ltb b a ≡ not (leb a b)
-    go (yes h) = rw (lt-ltb b a h, lt-leb a b h)
-    go (no h) = rw (le-ltb b a (omega arith), le-leb a b (omega arith))

@@ -1,5 +1,6 @@
 -- The four words of an ID, the first of them summed up, have its sixteen bytes.
-use Rattle.std.proofs.Common.{◌≡◌, ℕ, zero, suc, ◌+◌, ◌-◌, ◌*◌, ◌/◌, ◌%◌, ◌<◌, ◌≤◌, List, [], ◌∷◌, length, get_or, drop, sym, refl, ap, ◌∙◌, arith, drop_of_length-le, drop-cons}
+use Rattle.std.proofs.Common.{◌≡◌, ℕ, zero, suc, ◌+◌, ◌-◌, ◌*◌, ◌/◌, ◌%◌, ◌<◌, ◌≤◌, List, [], ◌∷◌, ◌++◌, length, get_or, drop, sym, refl, ap, ◌∙◌, arith, w32, drop_of_length-le, drop-cons}
+use Rattle.std.specs.Int.{to_le_bytes}
 use Rattle.search.specs.Places.{word_bytes, first_word, id_of}
 use Rattle.group.specs.Words.{word_at}
 
@@ -87,9 +88,22 @@ module _ (l : List ℕ) (n : length l ≡ 16) (fits : (k : ℕ) → k < 16 → g
       (λ i. word_bytes (f i) (word_bytes (eb i) (word_bytes (ec i) (word_bytes (ed i) [])))) ∙ all_words
 
 -- the first word, by three differences
-pub first_is : (a b c d s t r : ℕ) → b < 4294967296 → c < 4294967296 → d < 4294967296 → r < 4294967296
-    → (s + b) % 4294967296 ≡ a → (t + c) % 4294967296 ≡ s → (r + d) % 4294967296 ≡ t → r ≡ first_word a b c d
+pub first_is : (a b c d : ℕ) → b < 4294967296 → c < 4294967296 → d < 4294967296
+    → (((a + (4294967296 - b)) % 4294967296 + (4294967296 - c)) % 4294967296 + (4294967296 - d)) % 4294967296 ≡ first_word a b c d
 unfolding first_word
-first_is a b c d s t r fb fc fd fr es et er =
-    let o : d + c + b ≡ b + c + d = omega arith in
-    sym (taken_back r d c b t s a fr fd fc fb (sym er) (sym et) (sym es)) ∙ ap (λ (x : ℕ). (a + 12884901888 - x) % 4294967296) o
+first_is a b c d fb fc fd = omega (arith, fb, fc, fd)
+
+-- four bytes of a word, the lowest first
+le_bytes : (w : ℕ) (r : List ℕ) → w < 4294967296 → to_le_bytes w32 w ++ r ≡ word_bytes w r
+le_bytes w r f =
+    let e₂ : w / 65536 % 256 ≡ w / 256 / 256 % 256 = omega arith in
+    let e₃ : w / 16777216 % 256 ≡ w / 256 / 256 / 256 = omega (arith, f) in
+    λ i. w % 256 ∷ w / 256 % 256 ∷ e₂ i ∷ e₃ i ∷ r
+
+pub id_bytes : (m b c d : ℕ) → b < 4294967296 → c < 4294967296 → d < 4294967296
+    → to_le_bytes w32 (first_word m b c d) ++ (to_le_bytes w32 b ++ (to_le_bytes w32 c ++ (to_le_bytes w32 d ++ []))) ≡ id_of m b c d
+unfolding id_of first_word
+id_bytes m b c d fb fc fd =
+    let w = first_word m b c d in
+    let fw : w < 4294967296 = omega arith in
+    le_bytes w _ fw ∙ ap (word_bytes w) (le_bytes b _ fb ∙ ap (word_bytes b) (le_bytes c _ fc ∙ ap (word_bytes c) (le_bytes d [] fd)))

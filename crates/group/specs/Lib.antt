@@ -2,7 +2,6 @@ pub mod Columns
 pub mod Entries
 pub mod Kinds
 pub mod Members
-pub mod Parts
 pub mod Searches
 pub mod Topics
 pub mod View

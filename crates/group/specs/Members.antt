@@ -1,12 +1,12 @@
 -- A member that has joined, and one that is heard.
-use Rattle.std.specs.Prelude.{ℕ, true, List}
+use Rattle.std.specs.Prelude.{ℕ, List}
 use Rattle.std.proofs.Math.Option.{Option, none, some}
 use Rattle.rules.specs.Group.{Member}
 use Rattle.group.specs.declared.Seat.{Seat}
 
 -- a member that has joined at a tick
 abbrev pub joined_as : List ℕ → ℕ → ℕ → ℕ → ℕ → Seat
-joined_as id epoch subscription timeout tick = record { id = id; epoch = epoch; subscription = subscription; timeout = timeout; heard = tick; revoked_at = tick; used = true }
+joined_as id epoch subscription timeout tick = record { id = id; epoch = epoch; subscription = subscription; timeout = timeout; heard = tick; revoked_at = tick }
 
 -- the member at a place, heard at a tick
 abbrev pub heard_at : ℕ → Option Member → Option Member

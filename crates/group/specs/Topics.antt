@@ -1,13 +1,8 @@
 -- The bytes and the count of a topic's number, as they are read and set.
-use Rattle.std.specs.Prelude.{◌≡◌, ℕ, ◌*◌, ◌<◌, List, length, take, drop, ◌==◌, ◌≢◌, if◌then◌else◌}
+use Rattle.std.specs.Prelude.{◌≡◌, ℕ, ◌*◌, ◌<◌, List, take, drop, ◌==◌, ◌≢◌, if◌then◌else◌}
 use Rattle.std.proofs.Math.Option.{Option, none, some}
 use Rattle.rules.specs.Constants.{topic_count, id_length}
 use Rattle.rules.specs.Group as G
-
--- the two arrays have their lengths
-pub record Sized (ids counts : List ℕ) : Type 0 where
-  pub ids_long : length ids ≡ topic_count * id_length
-  pub counts_long : length counts ≡ topic_count
 
 -- the ID of a number
 abbrev pub id_at : List ℕ → ℕ → List ℕ

@@ -1,5 +1,5 @@
 -- The member record: the seat and the member of the rules that it stands for, and what each method makes of it, field by field.
-use Rattle.std.specs.Prelude.{ℕ, max, true, replicate}
+use Rattle.std.specs.Prelude.{ℕ, max, replicate}
 use Rattle.rules.specs.Group as G
 use Rattle.slots.specs.declared.SlotSet.{SlotSet}
 use Rattle.group.specs.declared.Seat.{Seat}
@@ -26,7 +26,7 @@ member_of s a q = record {
 }
 
 abbrev pub seat_of : Member → Seat
-seat_of m = record { id = m.id; epoch = m.epoch; subscription = m.subscription; timeout = m.timeout; heard = m.heard; revoked_at = m.revoked_at; used = true }
+seat_of m = record { id = m.id; epoch = m.epoch; subscription = m.subscription; timeout = m.timeout; heard = m.heard; revoked_at = m.revoked_at }
 
 -- 'at first, and again at a rejoin, the tick of the join'
 abbrev pub member_rejoined : Member → ℕ → ℕ → ℕ → ℕ → Member

@@ -8,12 +8,5 @@ use rules::{ID_LENGTH, Id};
 pub fn is_zero(id: Id) -> bool
     ensures { result ≡ zero_id id }
 {
-    let mut i: usize = 0;
-    while i < ID_LENGTH {
-        if id[i] != 0 {
-            return false;
-        }
-        i += 1;
-    }
-    true
+    id == [0; ID_LENGTH]
 }

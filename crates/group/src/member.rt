@@ -8,6 +8,7 @@ use rules::Id;
 use slots::{SlotSet, WORDS};
 
 // A member: `assigned` is 01's A and `revoking` its P.
+// As it is: the promises of its methods in specs/Transitions name each field of a member, those that a seat has too.
 #[derive(Clone, Copy)]
 pub struct Member {
     pub id: Id,
@@ -18,15 +19,6 @@ pub struct Member {
     pub revoking: SlotSet,
     pub heard: u32,
     pub revoked_at: u32,
-}
-
-fn larger(a: u32, b: u32) -> u32
-    ensures { result ≡ max a b }
-{
-    if a < b {
-        return b;
-    }
-    a
 }
 
 impl Member {
@@ -59,7 +51,6 @@ impl Member {
             timeout: self.timeout,
             heard: self.heard,
             revoked_at: self.revoked_at,
-            used: true,
         }
     }
 
@@ -105,7 +96,7 @@ impl Member {
         ensures { result ≡ member_advanced self target_epoch assigned }
     {
         let mut next = self;
-        next.epoch = larger(self.epoch, target_epoch);
+        next.epoch = self.epoch.max(target_epoch);
         next.assigned = assigned;
         next
     }

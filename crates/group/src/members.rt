@@ -1,27 +1,43 @@
 // Members in columns: found by ID, gathered at a place as a seat, and put back. A place whose four words of an ID are zero has no member: no ID is zero.
 // A place past the last has nobody, and what is put there is put nowhere.
-ghost use Rattle.std.specs.Prelude.{◌≡◌, false, length, slice_index_or, slice_set};
+ghost use Rattle.std.specs.Prelude.{◌≡◌, ◌+◌, ◌<◌, ◌≤◌, false, nat_lt, slice_index, slice_index_or, slice_set, if◌then◌else◌};
 ghost use Rattle.std.proofs.Math.Option.{none, some};
 ghost use Rattle.rules.specs.Basics.{any, find};
-ghost use Rattle.rules.specs.Group.{is_member, vacant};
+ghost use Rattle.rules.specs.Constants.{max_members};
+ghost use Rattle.rules.specs.Group.{is_member, vacant, fresh};
 ghost use Rattle.rules.specs.Refusals.{zero_id};
-ghost use Rattle.group.specs.Columns.{cell_count, Fits, view_members, vacant_seat, seat_at, cells_of, put_at, Vacated};
+ghost use Rattle.group.specs.Columns.{cell_count, view_members, words_at, no_numbers, numbers_at, seat_at, cells_of, put_at, Vacated};
 ghost use Rattle.group.specs.Members.{joined_as, heard_at};
-ghost use Rattle.group.specs.Searches.{Finds, Ended};
+ghost use Rattle.group.specs.Searches.{Finds};
 ghost use Rattle.group.specs.View.{seated};
 
-use crate::words::Words;
-use crate::{
-    CELLS, Found, HEARD, MEMBER_EPOCH, REVOKED_AT, SUBSCRIPTION, SUBSCRIPTIONS, Seat, TIMEOUT,
-    words,
-};
+use crate::{SUBSCRIPTIONS, Seat, words};
 use rules::{ID_LENGTH, Id, MEMBERS, Place};
-use search::{FOURTH, SECOND, THIRD};
+use search::{CELLS, FOURTH, SECOND, THIRD, Words};
+
+// Where the columns after the ID's begin.
+pub const EPOCH: usize = 4 * MEMBERS;
+
+pub const SUBSCRIPTION: usize = 5 * MEMBERS;
+
+pub const TIMEOUT: usize = 6 * MEMBERS;
+
+pub const HEARD: usize = 7 * MEMBERS;
+
+pub const REVOKED_AT: usize = 8 * MEMBERS;
+
+// Nine columns, one after another.
+// As it is: speed, a search and a sweep go over one column of all places, which a struct for each place would scatter; and `view_members` of specs/ reads them so.
+#[repr(C)]
+#[derive(Clone, Copy)]
+pub struct Members {
+    pub cells: [u32; CELLS],
+}
 
 impl Seat {
-    // A place without a member.
-    fn vacant() -> Seat
-        ensures { result ≡ vacant_seat }
+    // Nobody's numbers.
+    fn empty() -> Seat
+        ensures { result ≡ no_numbers }
     {
         Seat {
             id: [0; ID_LENGTH],
@@ -30,7 +46,6 @@ impl Seat {
             timeout: 0,
             heard: 0,
             revoked_at: 0,
-            used: false,
         }
     }
 
@@ -45,136 +60,177 @@ impl Seat {
             timeout: timeout,
             heard: tick,
             revoked_at: tick,
-            used: true,
         }
     }
 }
 
-// All columns are there: behind a slice the prover knows it. No code.
-fn whole(members: &[u32; CELLS])
-    ensures { length members.now ≡ cell_count }
-{
-    let all: &[u32] = members;
-}
-
-// Every word of the columns is one: behind a slice the prover knows it of all elements at once. No code.
-fn fit(words: &[u32])
-    ensures { Fits words.now }
-{
-    if 0 < words.len() {
-        let first = words[0];
-        return;
+impl Members {
+    // Nobody.
+    #[tactic(auto, unfolding(rules::specs::Group::fresh, rules::specs::Basics::up_to, crate::specs::Columns::view_members, crate::specs::Columns::view_place, crate::specs::Columns::member_of))]
+    pub fn empty() -> Members
+        ensures { view_members result.cells ≡ (fresh 0).members }
+    {
+        Members { cells: [0; CELLS] }
     }
-}
 
-// What a search by words says: the place after the last is none.
-fn found(k: usize) -> Found
-    ensures { Ended k result }
-{
-    if k < MEMBERS {
-        return Found::At(Place(k as u8));
+    // The place of the member with an ID.
+    pub fn find(&self, id: Id) -> Option<Place>
+        ensures { Finds (any (is_member id) (view_members self.now.cells)) (find (is_member id) (view_members self.now.cells)) result }
+    {
+        // The prover learns here that every entry is a word of 32 bits.
+        prove!(self.cells[0] <= u32::MAX);
+        let w = words::words_of(id);
+        if words::all_zero(w) {
+            return None;
+        }
+        let k = search::find(&self.cells, w)?;
+        Some(Place(k as u8))
     }
-    Found::Nowhere
-}
 
-// The place of the member with an ID.
-pub fn find(members: &[u32; CELLS], id: Id) -> Found
-    ensures { Finds (any (is_member id) (view_members members.now)) (find (is_member id) (view_members members.now)) result }
-{
-    whole(members);
-    fit(members);
-    let w = words::words_of(id);
-    if words::all_zero(w) {
-        return Found::Nowhere;
+    // The first place without a member.
+    pub fn find_vacant(&self) -> Option<Place>
+        ensures { Finds (any vacant (view_members self.now.cells)) (find vacant (view_members self.now.cells)) result }
+    {
+        let k = search::free::find(&self.cells)?;
+        Some(Place(k as u8))
     }
-    found(search::find(members, w.a, w.b, w.c, w.d))
-}
 
-// The first place without a member.
-pub fn find_vacant(members: &[u32; CELLS]) -> Found
-    ensures { Finds (any vacant (view_members members.now)) (find vacant (view_members members.now)) result }
-{
-    found(search::free::find(members))
-}
+    // The four words at a place.
+    fn words_at(&self, k: usize) -> Words
+        requires { k < max_members }
+        ensures { result ≡ words_at self.now.cells k }
+    {
+        Words {
+            a: self.cells[k],
+            b: self.cells[k + SECOND],
+            c: self.cells[k + THIRD],
+            d: self.cells[k + FOURTH],
+        }
+    }
 
-// The seat at a place.
-pub fn seat_at(members: &[u32; CELLS], p: Place) -> Seat
-    ensures { result ≡ seat_at members.now p.0 }
-{
-    let k = p.0 as usize;
-    if k < MEMBERS {
-        let w = Words {
-            a: members[k],
-            b: members[k + SECOND],
-            c: members[k + THIRD],
-            d: members[k + FOURTH],
-        };
-        let id = words::id_of(w);
-        let subscription = members[k + SUBSCRIPTION] % SUBSCRIPTIONS;
-        return Seat {
+    // Whether nobody is at a place.
+    #[tactic(auto, using(crate::proofs::PlaceTests::vacant_is, crate::proofs::Columns::past_members), unfolding(rules::specs::Group::vacant))]
+    pub(crate) fn is_vacant(&self, p: Place) -> bool
+        ensures { result ≡ vacant (slice_index_or (view_members self.now.cells) p.0 none) }
+    {
+        let k = p.0 as usize;
+        if MEMBERS <= k {
+            return true;
+        }
+        words::all_zero(self.words_at(k))
+    }
+
+    // What stands at a place in the column that begins at `from`; 0 past the last place.
+    pub(crate) fn number_at(&self, from: usize, p: Place) -> u32
+        requires { from + max_members ≤ cell_count }
+        ensures { result ≡ (if nat_lt p.0 max_members then slice_index self.now.cells (p.0 + from) else 0) }
+    {
+        let k = p.0 as usize;
+        if k < MEMBERS {
+            return self.cells[k + from];
+        }
+        0
+    }
+
+    // The member at a place.
+    #[tactic(auto, using(crate::proofs::PlaceTests::seat_none, crate::proofs::PlaceTests::seat_some, crate::proofs::Columns::heard_number, crate::proofs::Columns::revoked_number))]
+    pub fn seat_at(&self, p: Place) -> Option<Seat>
+        ensures { result ≡ seat_at self.now.cells p.0 }
+    {
+        if self.is_vacant(p) {
+            return None;
+        }
+        let id = self.id_at(p);
+        Some(Seat {
             id: id,
-            epoch: members[k + MEMBER_EPOCH],
-            subscription: subscription as u16,
-            timeout: members[k + TIMEOUT],
-            heard: members[k + HEARD],
-            revoked_at: members[k + REVOKED_AT],
-            used: !words::all_zero(w),
-        };
+            epoch: self.epoch_at(p),
+            subscription: self.subscription_at(p),
+            timeout: self.timeout_at(p),
+            heard: self.number_at(HEARD, p),
+            revoked_at: self.number_at(REVOKED_AT, p),
+        })
     }
-    Seat::vacant()
-}
 
-// What a place has in the columns: the words of an ID, and the numbers of a seat.
-fn put_cells(members: &mut [u32; CELLS], p: Place, w: Words, seat: Seat)
-    ensures { members.new ≡ put_at members.old p.0 (cells_of w.a w.b w.c w.d seat) }
-{
-    let k = p.0 as usize;
-    if MEMBERS <= k {
-        return;
+    // Single numbers of the member at a place, without a look at who is there; 0 past the last place.
+    #[tactic(auto, unfolding(crate::specs::Columns::numbers_at))]
+    pub fn id_at(&self, p: Place) -> Id
+        ensures { result ≡ (numbers_at self.now.cells p.0).id }
+    {
+        let k = p.0 as usize;
+        if k < MEMBERS {
+            return words::id_of(self.words_at(k));
+        }
+        [0; ID_LENGTH]
     }
-    members[k] = w.a;
-    members[k + SECOND] = w.b;
-    members[k + THIRD] = w.c;
-    members[k + FOURTH] = w.d;
-    members[k + MEMBER_EPOCH] = seat.epoch;
-    members[k + SUBSCRIPTION] = seat.subscription as u32;
-    members[k + TIMEOUT] = seat.timeout;
-    members[k + HEARD] = seat.heard;
-    members[k + REVOKED_AT] = seat.revoked_at;
-}
 
-// The member of a seat takes a place.
-pub fn put(members: &mut [u32; CELLS], p: Place, seat: Seat)
-    ensures { zero_id seat.id ≡ false → view_members members.new ≡ slice_set (view_members members.old) p.0 (some (seated seat)) }
-{
-    whole(members);
-    let id = seat.id;
-    let w = words::words_of(id);
-    put_cells(members, p, w, seat);
-}
-
-// Nobody is at a place: nothing of its member stays.
-pub fn vacate(members: &mut [u32; CELLS], p: Place)
-    ensures { Vacated members.old p.0 members.new }
-{
-    whole(members);
-    let none = Words {
-        a: 0,
-        b: 0,
-        c: 0,
-        d: 0,
-    };
-    put_cells(members, p, none, Seat::vacant());
-}
-
-// The member at a place is heard at a tick.
-pub fn hear(members: &mut [u32; CELLS], p: Place, tick: u32)
-    ensures { view_members members.new ≡ slice_set (view_members members.old) p.0 (heard_at tick (slice_index_or (view_members members.old) p.0 none)) }
-{
-    whole(members);
-    let k = p.0 as usize;
-    if MEMBERS <= k {
-        return;
+    #[tactic(auto, unfolding(crate::specs::Columns::numbers_at))]
+    pub fn epoch_at(&self, p: Place) -> u32
+        ensures { result ≡ (numbers_at self.now.cells p.0).epoch }
+    {
+        self.number_at(EPOCH, p)
     }
-    members[k + HEARD] = tick;
+
+    #[tactic(auto, unfolding(crate::specs::Columns::numbers_at))]
+    pub fn subscription_at(&self, p: Place) -> u16
+        ensures { result ≡ (numbers_at self.now.cells p.0).subscription }
+    {
+        (self.number_at(SUBSCRIPTION, p) % SUBSCRIPTIONS) as u16
+    }
+
+    #[tactic(auto, unfolding(crate::specs::Columns::numbers_at))]
+    pub fn timeout_at(&self, p: Place) -> u32
+        ensures { result ≡ (numbers_at self.now.cells p.0).timeout }
+    {
+        self.number_at(TIMEOUT, p)
+    }
+
+    // What a place has in the columns: the words of an ID, and the numbers of a seat.
+    #[tactic(auto, unfolding(crate::specs::Columns::put_at))]
+    fn put_cells(&mut self, p: Place, w: Words, seat: Seat)
+        ensures { self.new.cells ≡ put_at self.old.cells p.0 (cells_of w.a w.b w.c w.d seat) }
+    {
+        let k = p.0 as usize;
+        if MEMBERS <= k {
+            return;
+        }
+        self.cells[k] = w.a;
+        self.cells[k + SECOND] = w.b;
+        self.cells[k + THIRD] = w.c;
+        self.cells[k + FOURTH] = w.d;
+        self.cells[k + EPOCH] = seat.epoch;
+        self.cells[k + SUBSCRIPTION] = seat.subscription as u32;
+        self.cells[k + TIMEOUT] = seat.timeout;
+        self.cells[k + HEARD] = seat.heard;
+        self.cells[k + REVOKED_AT] = seat.revoked_at;
+    }
+
+    // The member of a seat takes a place.
+    #[tactic(auto, using(crate::proofs::Columns::put_is))]
+    pub fn put(&mut self, p: Place, seat: Seat)
+        ensures { zero_id seat.id ≡ false → view_members self.new.cells ≡ slice_set (view_members self.old.cells) p.0 (some (seated seat)) }
+    {
+        let id = seat.id;
+        let w = words::words_of(id);
+        self.put_cells(p, w, seat);
+    }
+
+    // Nobody is at a place: nothing of its member stays.
+    #[tactic(auto, using(crate::proofs::Columns::vacated_is))]
+    pub fn vacate(&mut self, p: Place)
+        ensures { Vacated self.old.cells p.0 self.new.cells }
+    {
+        self.put_cells(p, words::NOBODY, Seat::empty());
+    }
+
+    // The member at a place is heard at a tick.
+    #[tactic(auto, using(crate::proofs::Columns::heard_is, crate::proofs::Columns::heard_past))]
+    pub fn hear(&mut self, p: Place, tick: u32)
+        ensures { view_members self.new.cells ≡ slice_set (view_members self.old.cells) p.0 (heard_at tick (slice_index_or (view_members self.old.cells) p.0 none)) }
+    {
+        let k = p.0 as usize;
+        if MEMBERS <= k {
+            return;
+        }
+        self.cells[k + HEARD] = tick;
+    }
 }

@@ -1,92 +1,82 @@
 // Tests over the columns of the members: who subscribes to a topic, and whom a sweep removes.
-ghost use Rattle.std.specs.Prelude.{◌≡◌, slice_index_or};
+ghost use Rattle.std.specs.List.{list_any};
+ghost use Rattle.std.specs.Prelude.{◌≡◌, map, slice_index_or};
 ghost use Rattle.std.proofs.Math.Option.{none};
 ghost use Rattle.rules.specs.Basics.{any};
 ghost use Rattle.rules.specs.Effects.{due};
-ghost use Rattle.rules.specs.Group.{includes_topic, subscribes, vacant};
+ghost use Rattle.rules.specs.Group.{includes_topic, subscribes};
 ghost use Rattle.group.specs.Columns.{view_members};
 ghost use Rattle.group.specs.Entries.{subscription_of};
 
-use crate::words::Words;
-use crate::{CELLS, HEARD, REVOKED_AT, SUBSCRIPTION, SUBSCRIPTIONS, TIMEOUT, ticks, words};
+use crate::members::{HEARD, Members, REVOKED_AT};
+use crate::ticks;
 use rules::{MEMBERS, Place, SESSION_TIMEOUT, TOPIC_END};
-use search::{FOURTH, SECOND, THIRD};
-
-// Whether nobody is at a place.
-fn is_vacant(members: &[u32; CELLS], k: usize) -> bool
-    ensures { result ≡ vacant (slice_index_or (view_members members.now) k none) }
-{
-    if MEMBERS <= k {
-        return true;
-    }
-    let w = Words {
-        a: members[k],
-        b: members[k + SECOND],
-        c: members[k + THIRD],
-        d: members[k + FOURTH],
-    };
-    words::all_zero(w)
-}
-
-// The subscription at a place, 0 where nobody is.
-pub fn subscription_at(members: &[u32; CELLS], k: usize) -> u16
-    ensures { result ≡ subscription_of (slice_index_or (view_members members.now) k none) }
-{
-    if MEMBERS <= k {
-        return 0;
-    }
-    if is_vacant(members, k) {
-        return 0;
-    }
-    let subscription = members[k + SUBSCRIPTION] % SUBSCRIPTIONS;
-    subscription as u16
-}
 
 // Whether a subscription has a topic.
+#[tactic(auto, using(crate::proofs::Installing::past_topics), unfolding(rules::specs::Group::includes_topic))]
 fn includes_topic(subscription: u16, topic: u32) -> bool
     ensures { result ≡ includes_topic topic subscription }
 {
-    if topic < TOPIC_END {
-        return (subscription >> topic) % 2 == 1;
-    }
-    false
+    topic < TOPIC_END && (subscription >> topic) % 2 == 1
 }
 
-// Whether some member subscribes to a topic.
-pub fn any_subscribes(members: &[u32; CELLS], topic: u32) -> bool
-    ensures { result ≡ any (subscribes topic) (view_members members.now) }
+// Whether some subscription has a topic.
+fn any_includes(subscriptions: &[u16; MEMBERS], topic: u32) -> bool
+    ensures { result ≡ list_any (includes_topic topic) subscriptions.now }
 {
-    let mut k: usize = 0;
-    while k < MEMBERS {
-        let subscription = subscription_at(members, k);
-        if includes_topic(subscription, topic) {
-            return true;
+    subscriptions
+        .iter()
+        .any(|subscription| includes_topic(*subscription, topic))
+}
+
+impl Members {
+    // The subscription at a place, 0 where nobody is.
+    #[tactic(auto, using(crate::proofs::PlaceTests::nobody, crate::proofs::PlaceTests::somebody), unfolding(crate::specs::Entries::subscription_of))]
+    fn subscribed_at(&self, p: Place) -> u16
+        ensures { result ≡ subscription_of (slice_index_or (view_members self.now.cells) p.0 none) }
+    {
+        if self.is_vacant(p) {
+            return 0;
         }
-        k += 1;
+        self.subscription_at(p)
     }
-    false
-}
 
-// Whether a sweep at a tick removes the member at a place; `revokes`: its P is not empty.
-// Most members were heard lately, so that one column says no; who is at the place is looked at last.
-pub fn is_due(members: &[u32; CELLS], p: Place, revokes: bool, tick: u32) -> bool
-    ensures { result ≡ due tick revokes (slice_index_or (view_members members.now) p.0 none) }
-{
-    let k = p.0 as usize;
-    if MEMBERS <= k {
-        return false;
+    // The subscription at each place, 0 where no member is.
+    pub fn subscriptions(&self) -> [u16; MEMBERS]
+        ensures { result ≡ map subscription_of (view_members self.now.cells) }
+    {
+        let mut all = [0u16; MEMBERS];
+        for k in 0..MEMBERS {
+            all[k] = self.subscribed_at(Place(k as u8));
+        }
+        all
     }
-    let heard = members[k + HEARD];
-    if SESSION_TIMEOUT <= ticks::elapsed(tick, heard) {
-        return !is_vacant(members, k);
+
+    // Whether some member subscribes to a topic.
+    #[tactic(auto, using(crate::proofs::Installing::any_subscribed))]
+    pub fn any_subscribes(&self, topic: u32) -> bool
+        ensures { result ≡ any (subscribes topic) (view_members self.now.cells) }
+    {
+        any_includes(&self.subscriptions(), topic)
     }
-    if !revokes {
-        return false;
+
+    // Whether a sweep at a tick removes the member at a place; `revokes`: its P is not empty.
+    // Most members were heard lately, so that one column says no; who is at the place is looked at last.
+    #[tactic(auto, using(crate::proofs::PlaceTests::due_is, crate::proofs::Columns::heard_number, crate::proofs::Columns::revoked_number))]
+    pub fn is_due(&self, p: Place, revokes: bool, tick: u32) -> bool
+        ensures { result ≡ due tick revokes (slice_index_or (view_members self.now.cells) p.0 none) }
+    {
+        let heard = self.number_at(HEARD, p);
+        if SESSION_TIMEOUT <= ticks::elapsed(tick, heard) {
+            return !self.is_vacant(p);
+        }
+        if !revokes {
+            return false;
+        }
+        let revoked_at = self.number_at(REVOKED_AT, p);
+        if self.timeout_at(p) <= ticks::elapsed(tick, revoked_at) {
+            return !self.is_vacant(p);
+        }
+        false
     }
-    let timeout = members[k + TIMEOUT];
-    let revoked_at = members[k + REVOKED_AT];
-    if timeout <= ticks::elapsed(tick, revoked_at) {
-        return !is_vacant(members, k);
-    }
-    false
 }

@@ -6,10 +6,11 @@ ghost use Rattle.rules.specs.Group.{elapsed};
 use rules::CLOCK_LIMIT;
 
 // The time from the tick `since` to `tick`.
+#[tactic(auto, unfolding(rules::specs::Group::elapsed))]
 pub fn elapsed(tick: u32, since: u32) -> u32
     ensures { result ≡ elapsed tick since }
 {
-    std::num::wrapping_sub_u32(tick, since)
+    tick.wrapping_sub(since)
 }
 
 // Row 1001: whether `tick` lies before the last tick seen.

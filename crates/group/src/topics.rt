@@ -1,200 +1,129 @@
 // Topics by number, and what a topic event is tried for: row 1007, whether it changes anything, whether it raises the group epoch.
 // With count 0 there is no topic of a number, and past the last number there is none.
-// An array taken as a slice has no code: it tells the prover the array's length.
-ghost use Rattle.std.specs.Prelude.{◌≡◌, ℕ, List, slice_index, slice_index_or, slice_set};
+ghost use Rattle.std.specs.Prelude.{◌≡◌, ◌==◌, not, ◌&&◌, slice_index, slice_index_or, slice_set};
+ghost use Rattle.std.specs.List.{list_any, range_with_len};
 ghost use Rattle.std.proofs.Math.Option.{none};
-ghost use Rattle.rules.specs.Basics.{any, same};
-ghost use Rattle.rules.specs.Group.{Group};
+ghost use Rattle.rules.specs.Basics.{same};
+ghost use Rattle.rules.specs.Constants.{topic_count};
+ghost use Rattle.rules.specs.Group.{fresh};
 ghost use Rattle.rules.specs.Refusals.{has_id, allows, topic_bad, topic_changes, topic_raises};
-ghost use Rattle.group.specs.Columns.{view_members};
-ghost use Rattle.group.specs.View.{view_topics};
-ghost use Rattle.group.specs.Topics.{id_at, topic_of, Copied, Sized};
+ghost use Rattle.group.specs.Topics.{id_at, topic_of};
+ghost use Rattle.group.specs.View.{view, topics_in};
 
-use crate::{CELLS, TOPIC_BYTES, ids, subscribers};
+use crate::{Group, TOPIC_BYTES, ids};
 use rules::{ID_LENGTH, Id, MAX_COUNT, TOPIC_END, TOPICS};
 
-// The two arrays have their lengths. No code.
-fn whole<'a>(ids: &'a [u8; TOPIC_BYTES], counts: &'a [u8; TOPICS])
-    ensures { Sized ids.now counts.now }
-{
-    let i: &[u8] = ids;
-    let c: &[u8] = counts;
+// With count 0 there is no topic of the number.
+// As it is: `view_topics` of specs/ reads the two arrays as they lie in the struct that the C interface lends.
+#[repr(C)]
+#[derive(Clone, Copy)]
+pub struct Topics {
+    pub ids: [u8; TOPIC_BYTES],
+    pub counts: [u8; TOPICS],
 }
 
-// The count of a number.
-fn count_at(counts: &[u8; TOPICS], number: u32) -> u8
-    ensures { result ≡ slice_index counts.now number }
-{
-    let all: &[u8] = counts;
-    let n = number as usize;
-    if n < TOPICS {
-        return counts[n];
+impl Topics {
+    // No topic.
+    #[tactic(auto, unfolding(rules::specs::Group::fresh, rules::specs::Basics::up_to, crate::specs::View::view_topics, crate::specs::View::view_topic))]
+    pub fn empty() -> Topics
+        ensures { topics_in result ≡ (fresh 0).topics }
+    {
+        Topics {
+            ids: [0; TOPIC_BYTES],
+            counts: [0; TOPICS],
+        }
     }
-    0
-}
 
-// Whether the ID of a number is this one.
-fn is_id_at(ids: &[u8; TOPIC_BYTES], number: u32, id: Id) -> bool
-    ensures { result ≡ same (id_at ids.now number) id }
-{
-    let all: &[u8] = ids;
-    let n = number as usize;
-    if TOPICS <= n {
-        return false;
+    // The count of a number.
+    fn count_at(&self, number: u32) -> u8
+        ensures { result ≡ slice_index self.now.counts number }
+    {
+        let n = number as usize;
+        if n < TOPICS {
+            return self.counts[n];
+        }
+        0
     }
-    let from = n * ID_LENGTH;
-    let mut i: usize = 0;
-    while i < ID_LENGTH {
-        let byte = ids[from + i];
-        if byte != id[i] {
+
+    // Whether the ID of a number is this one.
+    #[tactic(auto, using(crate::proofs::Bytes::same_is, crate::proofs::Bytes::past_id))]
+    fn is_id_at(&self, number: u32, id: Id) -> bool
+        ensures { result ≡ same (id_at self.now.ids number) id }
+    {
+        let n = number as usize;
+        if TOPICS <= n {
             return false;
         }
-        i += 1;
+        let from = n * ID_LENGTH;
+        &self.ids[from..from + ID_LENGTH] == id.as_slice()
     }
-    true
-}
 
-// Whether there is a topic of a number, with an ID.
-fn has_id<'a>(ids: &'a [u8; TOPIC_BYTES], counts: &'a [u8; TOPICS], number: u32, id: Id) -> bool
-    ensures { result ≡ has_id id (slice_index_or (view_topics ids.now counts.now) number none) }
-{
-    whole(ids, counts);
-    if count_at(counts, number) == 0 {
-        return false;
+    // Whether there is a topic of a number, with an ID.
+    #[tactic(auto, using(crate::proofs::Numbering::topic_at), unfolding(rules::specs::Refusals::has_id, crate::specs::Topics::topic_of))]
+    fn has_id(&self, number: u32, id: Id) -> bool
+        ensures { result ≡ has_id id (slice_index_or (topics_in self.now) number none) }
+    {
+        self.count_at(number) != 0 && self.is_id_at(number, id)
     }
-    is_id_at(ids, number, id)
-}
 
-// Whether a topic of another number has an ID.
-fn other_has_id<'a>(
-    ids: &'a [u8; TOPIC_BYTES],
-    counts: &'a [u8; TOPICS],
-    number: u32,
-    id: Id,
-) -> bool
-    ensures { result ≡ any (has_id id) (slice_set (view_topics ids.now counts.now) number none) }
-{
-    let mut i: u32 = 0;
-    while i < TOPIC_END {
-        let here = i;
-        i += 1;
-        if here != number {
-            if has_id(ids, counts, here, id) {
-                return true;
-            }
+    // Whether a topic of another number has an ID.
+    fn other_has_id(&self, number: u32, id: Id) -> bool
+        ensures { result ≡ list_any (λ k. not (k == number) && has_id id (slice_index_or (topics_in self.now) k none)) (range_with_len 0 topic_count) }
+    {
+        (0..TOPIC_END).any(|i| (i != number) & self.has_id(i, id))
+    }
+
+    // Whether there is no topic of a number yet, or it has this ID and no higher count.
+    #[tactic(auto, using(crate::proofs::Numbering::topic_at, crate::proofs::Numbering::own_number), unfolding(rules::specs::Refusals::allows, crate::specs::Topics::topic_of))]
+    fn allows_count(&self, number: u32, id: Id, count: u32) -> bool
+        ensures { result ≡ allows id count (slice_index_or (topics_in self.now) number none) }
+    {
+        let had = self.count_at(number);
+        had == 0 || (self.is_id_at(number, id) && had as u32 <= count)
+    }
+
+    // The topic of a number is set; with count 0 there is none. A number past the last sets nothing.
+    pub fn put(&mut self, number: u32, id: Id, count: u8)
+        ensures { topics_in self.new ≡ slice_set (topics_in self.old) number (topic_of id count) }
+    {
+        let n = number as usize;
+        if TOPICS <= n {
+            return;
         }
-    }
-    false
-}
-
-// Whether there is no topic of a number yet, or it has this ID and no higher count.
-fn allows_count<'a>(
-    ids: &'a [u8; TOPIC_BYTES],
-    counts: &'a [u8; TOPICS],
-    number: u32,
-    id: Id,
-    count: u32,
-) -> bool
-    ensures { result ≡ allows id count (slice_index_or (view_topics ids.now counts.now) number none) }
-{
-    whole(ids, counts);
-    let had = count_at(counts, number);
-    if had == 0 {
-        return true;
-    }
-    if is_id_at(ids, number, id) {
-        return had as u32 <= count;
-    }
-    false
-}
-
-// Row 1007.
-pub fn is_bad_topic<'a>(
-    ids: &'a [u8; TOPIC_BYTES],
-    counts: &'a [u8; TOPICS],
-    number: u32,
-    id: Id,
-    count: u32,
-) -> bool
-    ensures { (g : Group) → g.topics ≡ view_topics ids.now counts.now → result ≡ topic_bad g number id count }
-{
-    if TOPIC_END <= number {
-        return true;
-    }
-    if count == 0 {
-        return true;
-    }
-    if MAX_COUNT < count {
-        return true;
-    }
-    if ids::is_zero(id) {
-        return true;
-    }
-    if other_has_id(ids, counts, number, id) {
-        return true;
-    }
-    !allows_count(ids, counts, number, id, count)
-}
-
-// Whether a topic is made, or its count is raised.
-pub fn topic_changes(counts: &[u8; TOPICS], number: u32, count: u32) -> bool
-    ensures { (g : Group) (ids : List ℕ) → g.topics ≡ view_topics ids counts.now → result ≡ topic_changes g number count }
-{
-    let all: &[u8] = counts;
-    let had = count_at(counts, number);
-    if had == 0 {
-        return true;
-    }
-    had as u32 != count
-}
-
-// Whether that raises the group epoch: some member subscribes to the topic.
-pub fn topic_raises<'a>(
-    members: &'a [u32; CELLS],
-    counts: &'a [u8; TOPICS],
-    number: u32,
-    count: u32,
-) -> bool
-    ensures { (g : Group) (ids : List ℕ) → g.topics ≡ view_topics ids counts.now → g.members ≡ view_members members.now → result ≡ topic_raises g number count }
-{
-    if topic_changes(counts, number, count) {
-        return subscribers::any_subscribes(members, number);
-    }
-    false
-}
-
-// The ID of a number is set.
-fn put_id(ids: &mut [u8; TOPIC_BYTES], number: u32, id: Id)
-    ensures { Copied id number ids.old ids.new }
-{
-    let all: &[u8] = ids;
-    let n = number as usize;
-    if TOPICS <= n {
-        return;
-    }
-    let from = n * ID_LENGTH;
-    let mut i: usize = 0;
-    while i < ID_LENGTH {
-        ids[from + i] = id[i];
-        i += 1;
+        let from = n * ID_LENGTH;
+        self.ids[from..from + ID_LENGTH].copy_from_slice(&id);
+        self.counts[n] = count;
     }
 }
 
-// The topic of a number is set; with count 0 there is none. A number past the last sets nothing.
-pub fn put_topic<'a>(
-    ids: &'a mut [u8; TOPIC_BYTES],
-    counts: &'a mut [u8; TOPICS],
-    number: u32,
-    id: Id,
-    count: u8,
-)
-    ensures { view_topics ids.new counts.new ≡ slice_set (view_topics ids.old counts.old) number (topic_of id count) }
-{
-    whole(ids, counts);
-    let n = number as usize;
-    if TOPICS <= n {
-        return;
+impl Group {
+    // Row 1007.
+    #[tactic(auto, using(crate::proofs::Numbering::any_other), unfolding(rules::specs::Refusals::topic_bad, crate::specs::View::view))]
+    pub fn is_bad_topic(&self, number: u32, id: Id, count: u32) -> bool
+        ensures { result ≡ topic_bad (view self.now) number id count }
+    {
+        TOPIC_END <= number
+            || count == 0
+            || MAX_COUNT < count
+            || ids::is_zero(id)
+            || self.topics.other_has_id(number, id)
+            || !self.topics.allows_count(number, id, count)
     }
-    put_id(ids, number, id);
-    counts[n] = count;
+
+    // Whether a topic is made, or its count is raised.
+    #[tactic(auto, using(crate::proofs::Numbering::topic_at), unfolding(rules::specs::Refusals::topic_changes, rules::specs::Refusals::count_changes, crate::specs::Topics::topic_of, crate::specs::View::view))]
+    pub fn topic_changes(&self, number: u32, count: u32) -> bool
+        ensures { result ≡ topic_changes (view self.now) number count }
+    {
+        let had = self.topics.count_at(number);
+        had == 0 || had as u32 != count
+    }
+
+    // Whether that raises the group epoch: some member subscribes to the topic.
+    #[tactic(auto, unfolding(rules::specs::Refusals::topic_raises, crate::specs::View::view))]
+    pub fn topic_raises(&self, number: u32, count: u32) -> bool
+        ensures { result ≡ topic_raises (view self.now) number count }
+    {
+        self.topic_changes(number, count) && self.members.any_subscribes(number)
+    }
 }

@@ -4,28 +4,16 @@ ghost use Rattle.rules.specs.Constants.{id_length};
 ghost use Rattle.search.specs.Places.{id_of, first_word};
 ghost use Rattle.group.specs.Words.{word_at, all_zero};
 
-use rules::Id;
-
-#[derive(Clone, Copy)]
-pub struct Words {
-    pub a: u32,
-    pub b: u32,
-    pub c: u32,
-    pub d: u32,
-}
-
-fn wide(x: u8) -> u32
-    ensures { (result ≡ x) × (result < 256) }
-{
-    x as u32
-}
+use rules::{ID_LENGTH, Id};
+use search::Words;
 
 // Four bytes as a word, the lowest first.
+#[tactic(auto, unfolding(crate::specs::Words::word_at))]
 fn word(id: Id, k: usize) -> u32
     requires { k + 4 ≤ id_length }
     ensures { result ≡ word_at k id }
 {
-    wide(id[k]) + 256 * wide(id[k + 1]) + 65536 * wide(id[k + 2]) + 16777216 * wide(id[k + 3])
+    u32::from_le_bytes([id[k], id[k + 1], id[k + 2], id[k + 3]])
 }
 
 pub fn words_of(id: Id) -> Words
@@ -35,64 +23,48 @@ pub fn words_of(id: Id) -> Words
     let b = word(id, 4);
     let c = word(id, 8);
     let d = word(id, 12);
-    let two = std::num::wrapping_add_u32(w, b);
-    let three = std::num::wrapping_add_u32(two, c);
+    let two = w.wrapping_add(b);
+    let three = two.wrapping_add(c);
     Words {
-        a: std::num::wrapping_add_u32(three, d),
+        a: three.wrapping_add(d),
         b: b,
         c: c,
         d: d,
     }
 }
 
+// The words of no ID.
+pub const NOBODY: Words = Words {
+    a: 0,
+    b: 0,
+    c: 0,
+    d: 0,
+};
+
 // Whether they are the words of no ID.
 pub fn all_zero(w: Words) -> bool
     ensures { result ≡ all_zero w.a w.b w.c w.d }
 {
-    if w.a != 0 {
-        return false;
-    }
-    if w.b != 0 {
-        return false;
-    }
-    if w.c != 0 {
-        return false;
-    }
-    w.d == 0
+    w == NOBODY
 }
 
 // The first of the four words of an ID.
+#[tactic(auto, using(crate::proofs::Spelling::first_is))]
 fn first_word(w: Words) -> u32
     ensures { result ≡ first_word w.a w.b w.c w.d }
 {
-    let two = std::num::wrapping_sub_u32(w.a, w.b);
-    let three = std::num::wrapping_sub_u32(two, w.c);
-    std::num::wrapping_sub_u32(three, w.d)
+    let two = w.a.wrapping_sub(w.b);
+    let three = two.wrapping_sub(w.c);
+    three.wrapping_sub(w.d)
 }
 
 pub fn id_of(w: Words) -> Id
     ensures { result ≡ id_of w.a w.b w.c w.d }
 {
-    let a = first_word(w);
-    let b = w.b;
-    let c = w.c;
-    let d = w.d;
-    [
-        (a % 256) as u8,
-        (a / 256 % 256) as u8,
-        (a / 256 / 256 % 256) as u8,
-        (a / 256 / 256 / 256) as u8,
-        (b % 256) as u8,
-        (b / 256 % 256) as u8,
-        (b / 256 / 256 % 256) as u8,
-        (b / 256 / 256 / 256) as u8,
-        (c % 256) as u8,
-        (c / 256 % 256) as u8,
-        (c / 256 / 256 % 256) as u8,
-        (c / 256 / 256 / 256) as u8,
-        (d % 256) as u8,
-        (d / 256 % 256) as u8,
-        (d / 256 / 256 % 256) as u8,
-        (d / 256 / 256 / 256) as u8,
-    ]
+    let mut id = [0; ID_LENGTH];
+    id[..4].copy_from_slice(&first_word(w).to_le_bytes());
+    id[4..8].copy_from_slice(&w.b.to_le_bytes());
+    id[8..12].copy_from_slice(&w.c.to_le_bytes());
+    id[12..].copy_from_slice(&w.d.to_le_bytes());
+    id
 }

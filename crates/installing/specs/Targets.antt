@@ -1,12 +1,10 @@
 -- A target by itself, a list with a place or `no_place` for each slot: the places whose sets a change of it changes, and the records that tell of it.
-use Rattle.std.specs.Prelude.{ℕ, ◌+◌, ◌*◌, ◌≤◌, ◌<◌, ◌≡◌, Bool, true, false, not, List, [], ◌∷◌, ◌++◌, map, length, get_or}
+use Rattle.std.specs.Prelude.{ℕ, ◌+◌, ◌*◌, ◌<◌, ◌≡◌, Bool, false, not, List, [], ◌∷◌, ◌++◌, map, get_or}
 use Rattle.rules.specs.Basics.{concat_map, same, up_to}
 use Rattle.rules.specs.Constants.{max_members, slot_count, no_place}
 use Rattle.rules.specs.Group.{SlotState, set_m}
 use Rattle.rules.specs.Records.{Record, target_is, target_epoch}
 use Rattle.rules.specs.Effects.{only_if}
-use Rattle.numbers.specs.Buffer.{Wrote}
-use Rattle.installing.specs.declared.retargeting.Stored.{Stored}
 
 -- the slots of a target, held by nobody: records 7 and 6 tell of no holder
 abbrev pub unheld_slot : ℕ → SlotState
@@ -35,8 +33,3 @@ marked_install marks target epoch = marked_records marks target ++ (target_epoch
 -- they take no more bytes
 abbrev pub install_most : ℕ
 install_most = 2 * slot_count + 4 * max_members + 6
-
--- the bytes w were to be stored in the buffer b, which is then b': where they don't fit it stays as it was
-pub record Stores (w b b' : List ℕ) (r : Stored) : Type 0 where
-  pub refused : r.short ≡ true → (length b < length w) × (b' ≡ b) × (r.written ≡ 0)
-  pub wrote : r.short ≡ false → (length w ≤ length b) × Wrote w b b' r.written

@@ -1,95 +1,69 @@
 // Installs of a target. Nobody's slots move here: the members take up the new target in their next heartbeats.
 #![tactic(auto)]
 
-ghost use Rattle.std.specs.Prelude.{◌≡◌, List, ℕ, length};
-ghost use Rattle.rules.specs.Constants.{slot_count};
+ghost use Rattle.std.specs.Prelude.{◌≡◌, List, ℕ};
 ghost use Rattle.rules.specs.Event as E;
-ghost use Rattle.rules.specs.Effects.{install_effect};
+ghost use Rattle.rules.specs.Effects.{retargeted, install_effect};
 ghost use Rattle.rules.specs.Step.{step};
-ghost use Rattle.group.specs.Parts.{target_before, target_after, view_target_parts};
-ghost use Rattle.events.specs.Outcomes.{Becomes, carried};
+ghost use Rattle.tables.specs.View.{slots_in};
+ghost use Rattle.events.specs.Outcomes.{Becomes, outcome_of, all_but_target, carried};
 
 mod retargeting; // retargeting.rt: the records of an install
 
-use events::{Outcome, refused};
-use group::{CELLS, EPOCH, TARGET_EPOCH};
-use rules::{Answer, NO_SLOT, Refusal, SLOTS, Slot, TOPICS};
+use events::Outcome;
+use group::{Group, epochs};
+use rules::{Answer, NO_SLOT, Refusal, SLOTS, Slot};
+use tables::Tables;
 
-// The head and the target have their lengths: behind a slice the prover knows it. No code.
-fn sized<'a>(head: &'a [u32; 3], target: &'a [u8; SLOTS])
-    ensures { (length head.now ≡ 3) × (length target.now ≡ slot_count) }
+// The target is replaced; who holds what stays.
+fn replace(tables: &mut Tables, target: &[u8; SLOTS])
+    ensures slots { slots_in tables.new ≡ retargeted (slots_in tables.old) target.now }
+    ensures holder { tables.new.holder ≡ tables.old.holder }
+    ensures waiting { tables.new.waiting ≡ tables.old.waiting }
 {
-    let h: &[u32] = head;
-    let t: &[u8] = target;
-}
-
-// The target becomes the entries.
-fn replace(target: &mut [u8; SLOTS], entries: &[u8])
-    requires { length entries.now ≡ slot_count }
-    ensures { target.new ≡ entries.now }
-{
-    let all: &[u8] = target;
-    let mut i: usize = 0;
-    while i < SLOTS {
-        target[i] = entries[i];
-        i += 1;
-    }
+    tables.target.copy_from_slice(target);
 }
 
 // An install that no row of the table refuses: the target replaced, and T becomes G.
-fn install_at<'a>(
-    head: &'a mut [u32; 3],
-    members: &'a [u32; CELLS],
-    topic_counts: &'a [u8; TOPICS],
-    target: &'a mut [u8; SLOTS],
-    entries: &[u8],
+fn install_at(
+    group: &mut Group,
+    target: &[u8; SLOTS],
     records: &mut [u8],
-) -> Outcome
-    requires { length entries.now ≡ slot_count }
-    ensures { (l : List ℕ) → Becomes view_target_parts result (target_before head members topic_counts target) (target_after head members topic_counts target) records.new l (λ g. carried g (install_effect g entries.now) records.old l) }
+) -> Result<Outcome, Refusal>
+    ensures { (l : List ℕ) → Becomes all_but_target (outcome_of result) group.old group.new records.new l (λ g. carried g (install_effect g target.now) records.old l) }
 {
-    sized(head, target);
-    let epoch = head[EPOCH];
-    let stored = retargeting::store_install(records, target, entries, epoch);
-    if stored.short {
-        return refused(Refusal::Room);
-    }
-    replace(target, entries);
-    head[TARGET_EPOCH] = epoch;
-    Outcome {
+    let epoch = group.head.epoch;
+    let written = retargeting::store_install(records, &group.tables, target, epoch)?;
+    replace(&mut group.tables, target);
+    group.head.target_epoch = epoch;
+    Ok(Outcome {
         answer: Answer::Done,
-        written: stored.written,
-    }
+        written,
+    })
 }
 
 // An install: an epoch, and for each slot a place or 255 for none; judged with the rule 'No slot left over' or without. Writes the records to the start of the
 // buffer and leaves the rest of it alone.
-pub fn install<'a>(
-    head: &'a mut [u32; 3],
-    members: &'a [u32; CELLS],
-    topic_counts: &'a [u8; TOPICS],
-    target: &'a mut [u8; SLOTS],
+pub fn install(
+    group: &mut Group,
     rule: bool,
     epoch: i32,
     entries: &[u8],
     records: &mut [u8],
-) -> Outcome
-    ensures { (l : List ℕ) → Becomes view_target_parts result (target_before head members topic_counts target) (target_after head members topic_counts target) records.new l (λ g. step g (E.install rule epoch entries.now) records.old l) }
+) -> Result<Outcome, Refusal>
+    ensures { (l : List ℕ) → Becomes all_but_target (outcome_of result) group.old group.new records.new l (λ g. step g (E.install rule epoch entries.now) records.old l) }
 {
-    sized(head, target);
-    if entries.len() != SLOTS {
-        return refused(Refusal::BadTarget(Slot(NO_SLOT)));
+    let Ok(target) = <&[u8; SLOTS]>::try_from(entries) else {
+        return Err(Refusal::BadTarget(Slot(NO_SLOT)));
+    };
+    if !epochs::is_epoch(epoch, group.head.epoch) {
+        return Err(Refusal::Stale);
     }
-    let current = head[EPOCH];
-    if !group::epochs::is_epoch(epoch, current) {
-        return refused(Refusal::Stale);
+    if group.head.target_epoch == group.head.epoch {
+        return Err(Refusal::Already);
     }
-    if head[TARGET_EPOCH] == current {
-        return refused(Refusal::Already);
+    if let Some(bad) = group.first_bad(rule, entries) {
+        return Err(Refusal::BadTarget(Slot(bad as u16)));
     }
-    let bad = group::entries::first_bad(members, topic_counts, rule, entries);
-    if bad < SLOTS {
-        return refused(Refusal::BadTarget(Slot(bad as u16)));
-    }
-    install_at(head, members, topic_counts, target, entries, records)
+    install_at(group, target, records)
 }

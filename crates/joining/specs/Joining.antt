@@ -1,32 +1,35 @@
 -- Where a member joins: `join_place` of the rules, if there is a place for it. And what stands when no row before the last applies.
-use Rattle.std.specs.Prelude.{◌≡◌, Bool, true, false, ◌||◌, List, ℕ, leb, get_or}
-use Rattle.rules.specs.Basics.{any, default}
+use Rattle.std.specs.Prelude.{◌≡◌, Bool, false, ◌||◌, List, ℕ, nat_le, if◌then◌else◌, Option, None, Some}
+use Rattle.std.proofs.Math.Option as M
+use Rattle.rules.specs.Basics.{any, find, default}
 use Rattle.rules.specs.Constants.{last_epoch}
-use Rattle.rules.specs.Event as E
-use Rattle.rules.specs.Group.{Group, known, vacant}
+use Rattle.rules.specs.Group.{Member, is_member, vacant}
 use Rattle.rules.specs.Refusals.{zero_id, timeout_or}
-use Rattle.rules.specs.Effects.{join_place}
 use Rattle.rules.specs.declared.Place.{Place}
 use Rattle.records.specs.declared.kinds.MemberMetadata.{MemberMetadata}
 use Rattle.group.specs.Columns.{seat_at}
-use Rattle.group.specs.Parts.{Parts}
-use Rattle.group.specs.Searches.{Finds}
+use Rattle.group.specs.declared.Group.{Group}
+use Rattle.group.specs.declared.Seat.{Seat}
 use Rattle.events.specs.Outcomes.{given_subscription}
 use Rattle.events.specs.declared.Request.{Request}
-use Rattle.joining.specs.declared.Choice.{Choice}
 
-abbrev pub has_place : Group → List ℕ → Bool
-has_place g id = known g id || any vacant g.members
+-- among some members there is a place for an ID; and it is its own, or else the first without a member
+abbrev pub has_place : List (M.Option Member) → List ℕ → Bool
+has_place ms id = any (is_member id) ms || any vacant ms
 
-pub record Chooses (g : Group) (b : E.Request) (r : Choice) : Type 0 where
-  pub known_is : r.known ≡ known g b.id
-  pub place_is : Finds (has_place g b.id) (join_place g b) r.place
+abbrev pub place_for : List (M.Option Member) → List ℕ → ℕ
+place_for ms id = if any (is_member id) ms then find (is_member id) ms else find vacant ms
 
--- G can rise; the ID is not zero; and it is that of the member at the place, where that is known
-pub record Ready (g : Parts) (p : ℕ) (known : Bool) (id : List ℕ) : Type 0 where
-  pub rises : leb last_epoch (get_or g.head 0 0) ≡ false
+-- a seat that is there has the ID
+abbrev pub IsOf : List ℕ → Option Seat → Type 0
+IsOf id None = Unit {0}
+IsOf id (Some s) = s.id ≡ id
+
+-- G can rise; the ID is not zero; and the place is that of its member, or of nobody
+pub record Ready (g : Group) (p : ℕ) (id : List ℕ) : Type 0 where
+  pub rises : nat_le last_epoch g.head.epoch ≡ false
   pub named : zero_id id ≡ false
-  pub own : known ≡ true → (seat_at g.members p).id ≡ id
+  pub own : IsOf id (seat_at g.members.cells p)
 
 -- record 5 of a join, with what the request gives
 abbrev pub metadata_in : Request → Place → MemberMetadata

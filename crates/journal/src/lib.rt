@@ -5,133 +5,44 @@
 #![tactic(auto)]
 
 ghost use Rattle.std.specs.Prelude.{◌≡◌, suc, length, drop};
-ghost use Rattle.rules.specs.Group as G;
 ghost use Rattle.rules.specs.Journal.{read_batches, read_journal};
 ghost use Rattle.rules.specs.Brokers.{JournalTheorems};
 ghost use Rattle.group.specs.View.{view};
-ghost use Rattle.judging.specs.Lent.{group_before, group_after};
 ghost use Rattle.journal.specs.Readings.{reading_as};
 
-use frames::{Extent, HEADING_LENGTH, Heading, Verdict};
-use group::{CELLS, TOPIC_BYTES};
-use rules::{BATCH_LIMIT, SLOTS, TOPICS};
-
-// The group becomes a fresh one.
-fn renew<'a>(
-    head: &'a mut [u32; 3],
-    members: &'a mut [u32; CELLS],
-    topic_ids: &'a mut [u8; TOPIC_BYTES],
-    topic_counts: &'a mut [u8; TOPICS],
-    target: &'a mut [u8; SLOTS],
-    holder: &'a mut [u8; SLOTS],
-    waiting: &'a mut [bool; SLOTS],
-    tick: u32,
-)
-    ensures { view (group_after head members topic_ids topic_counts target holder waiting) ≡ G.fresh tick }
-{
-    let g = group::fresh(tick);
-    let new_head = g.head;
-    let new_members = g.members;
-    let new_ids = g.topic_ids;
-    let new_counts = g.topic_counts;
-    let new_target = g.target;
-    let new_holder = g.holder;
-    let new_waiting = g.waiting;
-    *head = new_head;
-    *members = new_members;
-    *topic_ids = new_ids;
-    *topic_counts = new_counts;
-    *target = new_target;
-    *holder = new_holder;
-    *waiting = new_waiting;
-}
+use frames::{Damage, HEADING_LENGTH, NoBatch};
+use group::Group;
+use rules::{BATCH_LIMIT, SLOTS};
 
 // The batches from the place `start` on, for the group so far.
-fn read_batches<'a>(
-    head: &'a mut [u32; 3],
-    members: &'a mut [u32; CELLS],
-    topic_ids: &'a mut [u8; TOPIC_BYTES],
-    topic_counts: &'a mut [u8; TOPICS],
-    target: &'a mut [u8; SLOTS],
-    holder: &'a mut [u8; SLOTS],
-    waiting: &'a mut [bool; SLOTS],
-    tick: u32,
-    bytes: &[u8],
-    start: usize,
-) -> Verdict
-    ensures { reading_as result (group_after head members topic_ids topic_counts target holder waiting) ≡ read_batches (suc (length (drop start bytes.now))) tick start (view (group_before head members topic_ids topic_counts target holder waiting)) (drop start bytes.now) }
+fn read_batches(group: &mut Group, tick: u32, bytes: &[u8], start: usize) -> Result<(), Damage>
+    ensures { reading_as result group.new ≡ read_batches (suc (length (drop start bytes.now))) tick start (view group.old) (drop start bytes.now) }
 {
     let mut scratch = [0u8; BATCH_LIMIT];
     let mut list = [0u16; SLOTS];
     let mut at = start;
     loop {
-        let extent = frames::read_extent(bytes, at);
-        match extent {
-            Extent::End => return Verdict::Whole,
-            Extent::Torn => return Verdict::TornFrom(at),
-            Extent::Bad => return Verdict::RefusedAt(at),
-            Extent::Batch(first, end) => {
-                let good = judging::read_batch_with(
-                    head,
-                    members,
-                    topic_ids,
-                    topic_counts,
-                    target,
-                    holder,
-                    waiting,
-                    tick,
-                    &bytes[first..end],
-                    &mut scratch,
-                    &mut list,
-                );
+        match frames::read_extent(bytes, at) {
+            Ok((first, end)) => {
+                let batch = &bytes[first..end];
+                let good = judging::read_batch_with(group, tick, batch, &mut scratch, &mut list);
                 if !good {
-                    return Verdict::RefusedAt(at);
+                    return Err(Damage::RefusedAt(at));
                 }
                 at = end;
             }
+            Err(NoBatch::End) => return Ok(()),
+            Err(NoBatch::Torn) => return Err(Damage::TornFrom(at)),
+            Err(NoBatch::Bad) => return Err(Damage::RefusedAt(at)),
         }
     }
 }
 
-// Reads a journal at a tick.
-pub fn read<'a>(
-    head: &'a mut [u32; 3],
-    members: &'a mut [u32; CELLS],
-    topic_ids: &'a mut [u8; TOPIC_BYTES],
-    topic_counts: &'a mut [u8; TOPICS],
-    target: &'a mut [u8; SLOTS],
-    holder: &'a mut [u8; SLOTS],
-    waiting: &'a mut [bool; SLOTS],
-    tick: u32,
-    bytes: &[u8],
-) -> Verdict
-    ensures { (reading_as result (group_after head members topic_ids topic_counts target holder waiting) ≡ read_journal tick bytes.now) × JournalTheorems }
+// Reads a journal at a tick: whether it is whole, or what is wrong with it.
+pub fn read(group: &mut Group, tick: u32, bytes: &[u8]) -> Result<(), Damage>
+    ensures { (reading_as result group.new ≡ read_journal tick bytes.now) × JournalTheorems }
 {
-    renew(
-        head,
-        members,
-        topic_ids,
-        topic_counts,
-        target,
-        holder,
-        waiting,
-        tick,
-    );
-    let heading = frames::read_heading(bytes);
-    match heading {
-        Heading::Right => read_batches(
-            head,
-            members,
-            topic_ids,
-            topic_counts,
-            target,
-            holder,
-            waiting,
-            tick,
-            bytes,
-            HEADING_LENGTH,
-        ),
-        Heading::Wrong => Verdict::RefusedAt(0),
-        Heading::Cut => Verdict::TornFrom(0),
-    }
+    *group = group::fresh(tick);
+    frames::read_heading(bytes)?;
+    read_batches(group, tick, bytes, HEADING_LENGTH)
 }

@@ -1,5 +1,6 @@
--- The heartbeat of the member at a seat: whether its numbers fit, and what the request is then.
+-- The heartbeat of a seat's member: whether its numbers fit, and what the request is then.
 use Rattle.std.specs.Prelude.{if◌then◌else◌}
+use Rattle.std.specs.Prelude as P
 use Prim.Native.Nat.{ℕ, ◌%◌, ◌≤◌, ◌<◌}
 use native.Mathlib.Omega.{arith}
 use mathlib.Core.Path.{◌≡◌, refl, sym, ap, ◌∙◌, subst}
@@ -23,23 +24,10 @@ use Rattle.theorems.proofs.Cases.{by_cases}
 use Rattle.tables.specs.Advances.{owned_of}
 use Rattle.group.specs.declared.Seat.{Seat}
 use Rattle.group.specs.Columns.{view_members}
-use Rattle.group.specs.View.{seated, view_seat}
+use Rattle.group.specs.View.{seated}
+use Rattle.events.specs.declared.Request as Code
 use Rattle.events.specs.Outcomes.{given_subscription, request_of}
-use Rattle.judging.specs.declared.asking.Asked.{Asked}
 use Rattle.judging.specs.Asks.{Asks, beating_as, timeout_given}
-
--- ---- the member at a seat
-
-abbrev pub member_of : Seat → Member
-member_of s = default nobody (view_seat s)
-
-pub its_member : (s : Seat) → s.used ≡ true → member_of s ≡ seated s
-unfolding view_seat
-its_member s e = rw e
-
-no_member : (s : Seat) → s.used ≡ false → member_of s ≡ nobody
-unfolding view_seat
-no_member s e = rw e
 
 -- ---- numbers that fit
 
@@ -102,35 +90,27 @@ module _ (t : ℕ) (timeout subscription : ℕ) (moves : Bool) where
       rw (eq-eqb (length m.id) id_length n)
       (λ i. new_subscription_lem subscription m.subscription h i && (leb m.epoch last_epoch && new_timeout_lem timeout m.timeout i))
 
-  pub unused : (s : Seat) → s.used ≡ false → false ≡ is_typed (beat (member_of s))
-  unused s e = sym (ap (λ (m : Member). is_typed (beat m)) (no_member s e) ∙ nobody_beats)
-
   module _ (s : Seat) (n : length s.id ≡ id_length) (h : s.subscription < subscription_count) where
-    pub used : s.used ≡ true → fit (seated s) timeout subscription ≡ is_typed (beat (member_of s))
-    used e = sym (ap (λ (m : Member). is_typed (beat m)) (its_member s e) ∙ member_beats (seated s) n h)
-
-    is_used : is_typed (beat (member_of s)) ≡ true → s.used ≡ true
-    is_used e = by_cases s.used (λ u. u) (λ u. absurd (false≢true (unused s u ∙ e)))
+    pub fits : fit (seated s) timeout subscription ≡ is_typed (beat (seated s))
+    fits = sym (member_beats (seated s) n h)
 
     -- what the request has to have, if it fits
     pub beats : (epoch given : ℤ) (has : Bool) (own : ℕ)
         → (is_signed (pos s.epoch) ≡ true → epoch ≡ pos s.epoch) →
         (is_signed (timeout_given timeout s.timeout) ≡ true → given ≡ timeout_given timeout s.timeout)
-        → has ≡ not (eqb subscription s.subscription) → own ≡ subscription % subscription_count → is_typed (beat (member_of s)) ≡ true
+        → has ≡ not (eqb subscription s.subscription) → own ≡ subscription % subscription_count → is_typed (beat (seated s)) ≡ true
         → request_of (record { id = s.id; epoch = epoch; tick = t; timeout = given; has_subscription = has; subscription = own; has_list = moves }) []
-        ≡ beating_as t (member_of s) timeout subscription moves
+        ≡ beating_as t (seated s) timeout subscription moves
     unfolding request_of beating_as is_signed
     beats epoch given has own e τ a b typed =
-        let u = is_used typed in
-        let x = and_true (ltb subscription subscription_count) _ (used u ∙ typed) in
+        let x = and_true (ltb subscription subscription_count) _ (fits ∙ typed) in
         let y = and_true (leb s.epoch last_epoch) _ x.1 in
         let low = ltb-true subscription subscription_count x.0 in
         let m : subscription % subscription_count ≡ subscription = omega (arith, low) in
         let sub : given_subscription has own ≡ (if eqb subscription s.subscription then none else some subscription) =
         (λ i. given_subscription (a i) ((b ∙ m) i)) ∙ turned (eqb subscription s.subscription) in
         let given_is = τ (new_timeout_lem timeout s.timeout ∙ y.1) in
-        (λ i. record { id = s.id; epoch = e y.0 i; tick = t; timeout = given_is i; subscription = sub i; owned = owned_of moves [] })
-        ∙ ap (λ (k : Member). beating_as t k timeout subscription moves) (sym (its_member s u))
+        λ i. record { id = s.id; epoch = e y.0 i; tick = t; timeout = given_is i; subscription = sub i; owned = owned_of moves [] }
       where
         turned : (z : Bool) → given_subscription (not z) subscription ≡ (if z then none else some subscription)
         turned true = refl
@@ -143,37 +123,31 @@ beating_is : (t : ℕ) (g : G.Group) (p timeout subscription : ℕ) (moves : Boo
 unfolding beating beating_as timeout_given
 beating_is t g p timeout subscription moves = refl
 
--- a heartbeat whose numbers do not fit is not good
-pub not_good : (a : Asked) (b : E.Request) → is_typed (heartbeat b) ≡ false → a.good ≡ false → Asks a (some b)
-not_good a b e bad = (bad ∙ sym e, λ good. absurd (true≢false (sym good ∙ bad)))
+module _ (a : P.Option Code.Request) (t : ℕ) (g : G.Group) (members : List ℕ) (is : g.members ≡ view_members members) (p : ℕ) where
+  module _ (s : Seat) (at : some (seated s) ≡ get_or (view_members members) p none) where
+    seat_member : seated s ≡ member_at g p
+    unfolding member_at
+    seat_member = ap (default nobody) (at ∙ ap (λ (l : List (Option Member)). get_or l p none) (sym is))
 
-module _ (a : Asked) (t : ℕ) (g : G.Group) (members : List ℕ) (is : g.members ≡ view_members members) (s : Seat) (p : ℕ)
-    (at : view_seat s ≡ get_or (view_members members) p none) where
-  seat_member : member_of s ≡ member_at g p
+    -- the heartbeat of the seat at a place is that of the place
+    pub beats_at : (timeout subscription : ℕ) (moves : Bool) → Asks a (some (beating_as t (seated s) timeout subscription moves))
+        → Asks a (some (beating t g p timeout subscription moves))
+    beats_at timeout subscription moves h =
+        subst (λ (b : E.Request). Asks a (some b))
+        (ap (λ (m : Member). beating_as t m timeout subscription moves) seat_member ∙ beating_is t g p timeout subscription moves) h
+
+    -- and so if it gives what the member has
+    pub moves_at : Asks a (some (beating_as t (seated s) s.timeout s.subscription true))
+        → Asks a (some (beating t g p (member_at g p).timeout (member_at g p).subscription true))
+    moves_at h = subst (λ (m : Member). Asks a (some (beating t g p m.timeout m.subscription true))) seat_member (beats_at s.timeout s.subscription true h)
+
+  -- where nobody is, no heartbeat fits
+  pub nobody_at : none ≡ get_or (view_members members) p none → (timeout subscription : ℕ) (moves : Bool) → is_typed (heartbeat (beating t g p timeout subscription moves)) ≡ false
   unfolding member_at
-  seat_member = ap (default nobody) (at ∙ ap (λ (l : List (Option Member)). get_or l p none) (sym is))
-
-  -- the heartbeat of the seat at a place is that of the place
-  pub beats_at : (timeout subscription : ℕ) (moves : Bool) → Asks a (some (beating_as t (member_of s) timeout subscription moves))
-      → Asks a (some (beating t g p timeout subscription moves))
-  beats_at timeout subscription moves h =
-      subst (λ (b : E.Request). Asks a (some b))
-      (ap (λ (m : Member). beating_as t m timeout subscription moves) seat_member ∙ beating_is t g p timeout subscription moves) h
-
-  -- and if it gives what the member has, nothing counts of a seat where nobody is
-  pub moves_at : Asks a (some (beating_as t (member_of s) s.timeout s.subscription true))
-      → Asks a (some (beating t g p (member_at g p).timeout (member_at g p).subscription true))
-  moves_at h =
-      subst (λ (m : Member). Asks a (some (beating t g p m.timeout m.subscription true))) seat_member
-      (beats_at (member_of s).timeout (member_of s).subscription true (own h))
-    where
-      own : Asks a (some (beating_as t (member_of s) s.timeout s.subscription true))
-          → Asks a (some (beating_as t (member_of s) (member_of s).timeout (member_of s).subscription true))
-      own h =
-          by_cases s.used
-          (λ u. subst (λ (m : Member). Asks a (some (beating_as t (member_of s) m.timeout m.subscription true))) (sym (its_member s u)) h)
-          (λ u. not_good a _ (sym (unused t (member_of s).timeout (member_of s).subscription true s u))
-          (h.0 ∙ sym (unused t s.timeout s.subscription true s u)))
+  nobody_at at timeout subscription moves =
+      let e : nobody ≡ member_at g p = ap (default nobody) (at ∙ ap (λ (l : List (Option Member)). get_or l p none) (sym is)) in
+      subst (λ (b : E.Request). is_typed (heartbeat b) ≡ false)
+      (ap (λ (m : Member). beating_as t m timeout subscription moves) e ∙ beating_is t g p timeout subscription moves) (nobody_beats t timeout subscription moves)
 
 -- ---- a join
 

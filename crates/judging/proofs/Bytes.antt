@@ -1,14 +1,10 @@
--- The bytes in a buffer and a batch, compared one by one.
-use Prim.Native.Nat.{ℕ, ◌≤◌, ◌<◌}
-use native.Mathlib.Omega.{arith}
-use mathlib.Core.Path.{◌≡◌, sym, ap, ◌∙◌}
-use mathlib.Core.Bool.{true, false}
-use mathlib.Core.List.{List}
-use lib.ListN.{length, get_or, take}
-use lib.Seq.{ext_get_or, get_or-take, length-take-le}
+-- The bytes in a buffer and a batch, compared.
+use Rattle.std.proofs.Common.{ℕ, ◌≤◌, ◌<◌, ◌≡◌, refl, sym, ap, Bool, false, ◌&&◌, List, [], ◌∷◌, length, take}
+use lib.Dec.{eqb}
+use lib.Pointwise.{pointwise}
 use borrow.Author.Tests.{le-leb, lt-leb}
 use Rattle.rules.specs.Basics.{same}
-use Rattle.rules.proofs.Lists.{same_eq, same_refl}
+use Rattle.rules.proofs.Lists.{same_eq}
 use Rattle.theorems.proofs.Cases.{never}
 use Rattle.judging.specs.Reads.{is_batch}
 
@@ -20,20 +16,12 @@ module _ (a b : List ℕ) (n : ℕ) where
   unfolding is_batch
   too_short h = rw (lt-leb n (length a) h)
 
-  module _ (h : n ≤ length a) where
-    differ : (take n a ≡ b → ⊥) → false ≡ is_batch a n b
-    unfolding is_batch
-    differ k = sym (rw (le-leb n (length a) h) (not_same (take n a) b k))
+  pub whole : n ≤ length a → same (take n a) b ≡ is_batch a n b
+  unfolding is_batch
+  whole h = sym (rw (le-leb n (length a) h))
 
-    pub other_length : (n ≡ length b → ⊥) → false ≡ is_batch a n b
-    other_length k = differ (λ e. k (sym (length-take-le n a h) ∙ ap length e))
-
-    pub other_byte : (i : ℕ) → i < n → (get_or a i 0 ≡ get_or b i 0 → ⊥) → false ≡ is_batch a n b
-    other_byte i q k = differ (λ e. k (sym (get_or-take n a i 0 q) ∙ ap (λ (l : List ℕ). get_or l i 0) e))
-
-    pub all_same : n ≡ length b → ((k : ℕ) → k < n → get_or a k 0 ≡ get_or b k 0) → true ≡ is_batch a n b
-    unfolding is_batch
-    all_same l k =
-        let w = length-take-le n a h in
-        let e : take n a ≡ b = ext_get_or 0 (take n a) b (w ∙ l) (λ i q. get_or-take n a i 0 (omega (arith, w, q)) ∙ k i (omega (arith, w, q))) in
-        rw (le-leb n (length a) h, e) (sym (same_refl b))
+pub pointwise_same : (a b : List ℕ) → pointwise eqb a b ≡ same a b
+pointwise_same [] [] = refl
+pointwise_same [] (y ∷ ys) = refl
+pointwise_same (x ∷ xs) [] = refl
+pointwise_same (x ∷ xs) (y ∷ ys) = ap (λ (z : Bool). eqb x y && z) (pointwise_same xs ys)

@@ -2,7 +2,6 @@ pub mod Beating
 pub mod Bytes
 pub mod Candidates
 pub mod Reading
-pub mod Resting
 pub mod Runs
 pub mod Stepping
 pub mod Ticks

@@ -1,12 +1,13 @@
 -- Reading a batch: it is no batch, or its records are gathered and their candidate is judged.
 use Prim.Native.Nat.{ℕ, ◌≤◌, ◌<◌}
 use mathlib.Core.Path.{◌≡◌, refl, sym, ap, ◌∙◌}
-use mathlib.Core.Bool.{false, ◌&&◌}
+use mathlib.Core.Bool.{Bool, true, false, ◌&&◌, true≢false}
+use lib.Dec.{eqb}
 use mathlib.Core.List.{List, [], ◌∷◌}
 use mathlib.Core.Option.{Option, none, some}
 use native.Mathlib.Omega.{arith}
 use lib.ListN.{length}
-use borrow.Author.Tests.{le-ltb, lt-ltb}
+use borrow.Author.Tests.{eq-eqb, eqb-true, le-ltb, lt-ltb}
 use Rattle.rules.specs.Basics.{all, case_of, empty}
 use Rattle.rules.specs.Constants.{batch_limit}
 use Rattle.rules.specs.Group.{Group}
@@ -46,6 +47,12 @@ module _ (t : ℕ) (g : Group) (bytes : List ℕ) where
 
     pub records_read : (rs : List Record) → fitting bytes ≡ some rs → judged t bytes (candidate t (retimed t g) rs) ≡ read_batch t g bytes
     records_read rs e = sym (read_is ∙ ap (λ (o : Option (List Record)). case_of o none (λ rs. judged t bytes (candidate t (retimed t g) rs))) e)
+
+pub none_left : (n : ℕ) {b : Bool} → b ≡ eqb n 0 → b ≡ true → n ≡ 0
+none_left n e t = eqb-true n 0 (sym e ∙ t)
+
+pub some_left : (n : ℕ) {b : Bool} → b ≡ eqb n 0 → b ≡ false → n ≡ 0 → ⊥
+some_left n e f z = true≢false (sym (eq-eqb n 0 z) ∙ sym e ∙ f)
 
 pub fair : (bytes : List ℕ) → (length bytes ≡ 0 → ⊥) → length bytes ≤ batch_limit → Fair bytes
 fair bytes n h = record { stored = pick bytes n; short = h }

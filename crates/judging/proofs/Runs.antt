@@ -1,13 +1,14 @@
 -- What a function of the coordinator ensures is what running its event is promised to be, kind by kind.
+use Rattle.std.specs.Prelude as P
 use Prim.Native.Nat.{ℕ, ◌≤◌, ◌<◌}
 use native.Mathlib.Omega.{arith}
 use mathlib.Core.Path.{◌≡◌, refl, sym, ap, ◌∙◌, subst}
-use mathlib.Core.Bool.{Bool, true, false, true≢false}
+use mathlib.Core.Bool.{Bool, true, false}
 use mathlib.Core.List.{List, []}
 use mathlib.Core.Option.{Option, none, some}
 use lib.Dec.{leb}
 use lib.IntN.{ℤ, pos}
-use lib.ListN.{length, get_or}
+use lib.ListN.{length}
 use borrow.Author.Tests.{eq-eqb, le-leb, lt-leb}
 use Rattle.rules.specs.Constants.{batch_limit, id_length, last_epoch, max_members, slot_count}
 use Rattle.rules.specs.Group as G
@@ -20,36 +21,31 @@ use Rattle.rules.specs.Batches.{Witness, is_signed, is_typed, judged, removing, 
 use Rattle.theorems.proofs.Moves.{moves_advanced}
 use Rattle.theorems.proofs.Sizes.{indices_size}
 use Rattle.recovery.proofs.KeepsTicks.{AtTick, keeps_ticks, removing_keeps}
-use Rattle.tables.specs.View.{view_lists}
+use Rattle.tables.specs.View.{slots_in}
 use Rattle.tables.proofs.Viewing.{view_length}
 use Rattle.group.specs.Columns.{view_members}
 use Rattle.group.specs.declared.Group.{Group}
-use Rattle.group.specs.View.{view, view_topics, view_with}
-use Rattle.group.specs.Parts.{Holding, Parts, Tables, TargetParts, TopicParts, view_parts, view_target_parts, view_topic_parts, Whole}
+use Rattle.group.specs.View.{topics_in, view}
 use Rattle.group.proofs.Columns.{members_long}
 use Rattle.events.specs.declared.Outcome.{Outcome}
-use Rattle.events.specs.Outcomes.{Becomes, request_of, took}
+use Rattle.events.specs.declared.Request as Code
+use Rattle.events.specs.Outcomes.{Becomes, all_but_target, members_and_tables, request_of, topics_of}
 use Rattle.batches.specs.declared.Gathered.{Gathered}
 use Rattle.batches.specs.Gathered.{Says}
-use Rattle.judging.specs.declared.asking.Asked.{Asked}
 use Rattle.judging.specs.Asks.{Asks, AsksFor, beat_in}
 use Rattle.judging.specs.Choices.{if_asked}
 use Rattle.judging.specs.Reads.{Ran}
 use Rattle.judging.proofs.Candidates.{beat_tick}
-use Rattle.judging.proofs.Resting.{with_holding, with_tables, with_topics, view_holding, view_tables, view_topics_lem}
 use Rattle.judging.proofs.Stepping.{judges, nothing_written, untyped}
 
--- ---- an event on the group as it is: of the part that it was lent and the rest the group is made
+-- ---- an event on the group as it is
 
-ran : {Rest Part : Type 0} (shows : Rest → Part → G.Group) (made : Part → Group) (rest : Rest) → ((p : Part) → view (made p) ≡ shows rest p)
-    → (t : ℕ) (e : Event) → AtTick t e → is_typed e ≡ true → (p p' : Part) (buf buf' list list' : List ℕ) → length buf ≡ batch_limit
-    → length (effect (view (made p)) e).told ≤ length list → (o : Outcome) → Becomes shows o p p' buf' list' (λ g. step g e buf list)
-    → retimed t (view (made p)) ≡ view (made p) → Ran o.written buf' (view (made p')) t (some (tried (view (made p)) e))
+ran : {Kept : Type 0} (kept : Group → Kept) (t : ℕ) (e : Event) → AtTick t e → is_typed e ≡ true → (g g' : Group) (buf buf' list list' : List ℕ) → length buf ≡ batch_limit
+    → length (effect (view g) e).told ≤ length list → (o : Outcome) → Becomes kept o g g' buf' list' (λ h. step h e buf list)
+    → retimed t (view g) ≡ view g → Ran o.written buf' (view g') t (some (tried (view g) e))
 unfolding tried
-ran shows made rest is t e at typed p p' buf buf' list list' size told o b still batch fair =
-    judges t (view (made p)) e (keeps_ticks t (view (made p)) still e at) typed buf list batch fair.stored (omega (arith, size, fair.short)) told o
-    (view (made p')) buf' list'
-    (ap (λ (h : G.Group). took o h buf' list') (is p') ∙ b.1 rest ∙ ap (λ (h : G.Group). step h e buf list) (sym (is p)))
+ran kept t e at typed g g' buf buf' list list' size told o b still batch fair =
+    judges t (view g) e (keeps_ticks t (view g) still e at) typed buf list batch fair.stored (omega (arith, size, fair.short)) told o (view g') buf' list' b.2
 
 -- another name of the same candidate
 pub ran_as : (n : ℕ) (buf : List ℕ) (h : G.Group) (t : ℕ) (w w' : Option Witness) → w ≡ w' → Ran n buf h t w → Ran n buf h t w'
@@ -82,37 +78,33 @@ told_of g b (ordinary e) =
     let p = (sender_of g b).place in
     omega (arith, indices_size (assigned p) 0 (slots_after g (sender_of g b) b), (moves_advanced p g.slots b.owned).long)
 
-heartbeat_tells : (ids counts : List ℕ) (p : Parts) (b : Request) → Whole p
-    → length (effect (view (with_topics ids counts p)) (heartbeat b)).told ≤ slot_count
-unfolding effect view view_with
-heartbeat_tells ids counts p b w =
-    let n = view_length p.target p.holder p.waiting (w.holder_long ∙ sym w.target_long) (w.waiting_long ∙ sym w.target_long) in
-    omega (arith, told_of (view (with_topics ids counts p)) b (kind_of b.epoch), n, w.target_long)
+heartbeat_tells : (g : Group) (b : Request) → length g.tables.target ≡ slot_count → length g.tables.holder ≡ slot_count → length g.tables.waiting ≡ slot_count
+    → length (effect (view g) (heartbeat b)).told ≤ slot_count
+unfolding effect view
+heartbeat_tells g b x y z =
+    let n = view_length g.tables.target g.tables.holder g.tables.waiting (y ∙ sym x) (z ∙ sym x) in
+    omega (arith, told_of (view g) b (kind_of b.epoch), n, x)
 
 -- ---- topics and installs
 
-pub topic_ran : (rest : Tables) (t n : ℕ) (id : List ℕ) (k : ℕ) → length id ≡ id_length → (p p' : TopicParts) (buf buf' : List ℕ) → length buf ≡ batch_limit
-    → (o : Outcome) → ((l : List ℕ) → Becomes view_topic_parts o p p' buf' l (λ g. step g (topic n id k) buf l))
-    → retimed t (view (with_tables rest p)) ≡ view (with_tables rest p)
-    → Ran o.written buf' (view (with_tables rest p')) t (some (tried (view (with_tables rest p)) (topic n id k)))
+pub topic_ran : (t n : ℕ) (id : List ℕ) (k : ℕ) → length id ≡ id_length → (g g' : Group) (buf buf' : List ℕ) → length buf ≡ batch_limit
+    → (o : Outcome) → ((l : List ℕ) → Becomes members_and_tables o g g' buf' l (λ h. step h (topic n id k) buf l))
+    → retimed t (view g) ≡ view g → Ran o.written buf' (view g') t (some (tried (view g) (topic n id k)))
 unfolding is_typed
-topic_ran rest t n id k long p p' buf buf' size o b =
-    ran view_topic_parts (with_tables rest) rest (view_tables rest) t (topic n id k) tt (eq-eqb (length id) id_length long) p p' buf buf' [] [] size
-    (topic_tells (view (with_tables rest p)) n id k) o (b [])
+topic_ran t n id k long g g' buf buf' size o b =
+    ran members_and_tables t (topic n id k) tt (eq-eqb (length id) id_length long) g g' buf buf' [] [] size (topic_tells (view g) n id k) o (b [])
 
 install_typed : (n : ℕ) (entries : List ℕ) → is_typed (install without_rule (pos n) entries) ≡ leb n last_epoch
 unfolding is_typed is_signed
 install_typed n entries = refl
 
-pub install_ran : (rest : Holding) (t n : ℕ) (z : ℤ) (entries : List ℕ) → n ≤ last_epoch → z ≡ pos n → (p p' : TargetParts) (buf buf' : List ℕ)
-    → length buf ≡ batch_limit → (o : Outcome) → ((l : List ℕ) → Becomes view_target_parts o p p' buf' l (λ g. step g (install without_rule z entries) buf l))
-    → retimed t (view (with_holding rest p)) ≡ view (with_holding rest p)
-    → Ran o.written buf' (view (with_holding rest p')) t (some (tried (view (with_holding rest p)) (install without_rule (pos n) entries)))
-install_ran rest t n z entries low is p p' buf buf' size o b =
-    ran view_target_parts (with_holding rest) rest (view_holding rest) t (install without_rule (pos n) entries) tt (install_typed n entries ∙ le-leb n last_epoch low) p p'
-    buf buf' [] [] size
-    (install_tells (view (with_holding rest p)) (pos n) entries) o
-    (subst (λ (x : ℤ). Becomes view_target_parts o p p' buf' [] (λ g. step g (install without_rule x entries) buf [])) is (b []))
+pub install_ran : (t n : ℕ) (z : ℤ) (entries : List ℕ) → n ≤ last_epoch → z ≡ pos n → (g g' : Group) (buf buf' : List ℕ)
+    → length buf ≡ batch_limit → (o : Outcome) → ((l : List ℕ) → Becomes all_but_target o g g' buf' l (λ h. step h (install without_rule z entries) buf l))
+    → retimed t (view g) ≡ view g → Ran o.written buf' (view g') t (some (tried (view g) (install without_rule (pos n) entries)))
+install_ran t n z entries low is g g' buf buf' size o b =
+    ran all_but_target t (install without_rule (pos n) entries) tt (install_typed n entries ∙ le-leb n last_epoch low) g g' buf buf' [] [] size
+    (install_tells (view g) (pos n) entries) o
+    (subst (λ (x : ℤ). Becomes all_but_target o g g' buf' [] (λ h. step h (install without_rule x entries) buf [])) is (b []))
 
 -- an epoch that does not fit was never stored
 pub large_install : (buf : List ℕ) (h : G.Group) (t : ℕ) (g : G.Group) (n : ℕ) (entries : List ℕ) → last_epoch < n
@@ -124,83 +116,69 @@ large_install buf h t g n entries e =
 
 -- ---- heartbeats
 
--- one that is not good was never accepted
-not_asked : (t : ℕ) (g : G.Group) (batch : List ℕ) (a : Asked) (o : Option Request) → Asks a o → a.good ≡ false → none ≡ judged t batch (if_asked g o)
+-- one whose numbers do not fit was never accepted
+not_asked : (t : ℕ) (g : G.Group) (batch : List ℕ) (o : Option Request) → Asks P.None o → none ≡ judged t batch (if_asked g o)
 unfolding if_asked judged tried
-not_asked t g batch a none is bad = refl
-not_asked t g batch a (some b) is bad = untyped t g (heartbeat b) batch (sym is.0 ∙ bad)
+not_asked t g batch none is = refl
+not_asked t g batch (some b) is = untyped t g (heartbeat b) batch is
 
--- one that is good is run
-was_asked : (n : ℕ) (buf : List ℕ) (g h : G.Group) (t : ℕ) (a : Asked) (o : Option Request) → Asks a o → a.good ≡ true
+-- any other is run
+was_asked : (n : ℕ) (buf : List ℕ) (g h : G.Group) (t : ℕ) (r : Code.Request) (o : Option Request) → Asks (P.Some r) o
     → ((b : Request) → o ≡ some b → b.tick ≡ t)
-    → ((b : Request) → request_of a.request [] ≡ b → is_typed (heartbeat b) ≡ true → b.tick ≡ t → Ran n buf h t (some (tried g (heartbeat b))))
+    → ((b : Request) → request_of r [] ≡ b → is_typed (heartbeat b) ≡ true → b.tick ≡ t → Ran n buf h t (some (tried g (heartbeat b))))
     → Ran n buf h t (if_asked g o)
 unfolding if_asked
-was_asked n buf g h t a none is good at run = absurd (true≢false (sym good ∙ is))
-was_asked n buf g h t a (some b) is good at run = run b (is.1 good) (sym is.0 ∙ good) (at b refl)
+was_asked n buf g h t r none is at run = absurd is
+was_asked n buf g h t r (some b) is at run = run b is.1 is.0 (at b refl)
 
-module _ (ids counts : List ℕ) (a : Asked) (said : Gathered) (t : ℕ) (p p' : Parts) (asks : AsksFor a p.members said t)
-    {bytes : List ℕ} {table : List Bool} {entries entries' : List ℕ} (s : Says bytes said table entries entries') where
-  abbrev before : G.Group
-  before = view (with_topics ids counts p)
+module _ (said : Gathered) (t : ℕ) (g g' : Group) {bytes : List ℕ} {table : List Bool} {entries entries' : List ℕ} (s : Says bytes said table entries entries') where
+  asked : (a : P.Option Code.Request) → AsksFor a g.members.cells said t → Asks a (beat_in t (view g) s.records)
+  unfolding view
+  asked a asks = asks bytes table entries entries' s (view g) refl
 
-  abbrev after : G.Group
-  after = view (with_topics ids counts p')
+  pub no_heartbeat : (buf : List ℕ) → AsksFor P.None g.members.cells said t → Ran 0 buf (view g') t (if_asked (view g) (beat_in t (view g) s.records))
+  no_heartbeat buf asks =
+      none_ran buf (view g') t (if_asked (view g) (beat_in t (view g) s.records)) (λ batch. not_asked t (view g) batch (beat_in t (view g) s.records) (asked P.None asks))
 
-  asked : Asks a (beat_in t before s.records)
-  unfolding view view_with
-  asked = asks bytes table entries entries' s before refl
-
-  pub bad_heartbeat : (buf : List ℕ) → a.good ≡ false → Ran 0 buf after t (if_asked before (beat_in t before s.records))
-  bad_heartbeat buf bad =
-      none_ran buf after t (if_asked before (beat_in t before s.records)) (λ batch. not_asked t before batch a (beat_in t before s.records) asked bad)
-
-  pub heartbeat_ran : a.good ≡ true → Whole p → (buf buf' list list' : List ℕ) → length buf ≡ batch_limit → length list ≡ slot_count
-      → (o : Outcome) → Becomes view_parts o p p' buf' list' (λ g. step g (heartbeat (request_of a.request [])) buf list)
-      → retimed t before ≡ before → Ran o.written buf' after t (if_asked before (beat_in t before s.records))
-  heartbeat_ran good w buf buf' list list' size wide o becomes still =
-      was_asked o.written buf' before after t a (beat_in t before s.records) asked good (beat_tick t before s.records)
-      (λ b is typed at. ran view_parts (with_topics ids counts) (view_topics ids counts) (view_topics_lem ids counts) t (heartbeat b) at typed p p' buf buf' list list'
-      size (omega (arith, wide, heartbeat_tells ids counts p b w)) o
-      (subst (λ (x : Request). Becomes view_parts o p p' buf' list' (λ g. step g (heartbeat x) buf list)) is becomes) still)
+  pub heartbeat_ran : (r : Code.Request) → AsksFor (P.Some r) g.members.cells said t → length g.tables.target ≡ slot_count → length g.tables.holder ≡ slot_count
+      → length g.tables.waiting ≡ slot_count → (buf buf' list list' : List ℕ) → length buf ≡ batch_limit → length list ≡ slot_count
+      → (o : Outcome) → Becomes topics_of o g g' buf' list' (λ h. step h (heartbeat (request_of r [])) buf list)
+      → retimed t (view g) ≡ view g → Ran o.written buf' (view g') t (if_asked (view g) (beat_in t (view g) s.records))
+  heartbeat_ran r asks x y z buf buf' list list' size wide o becomes still =
+      was_asked o.written buf' (view g) (view g') t r (beat_in t (view g) s.records) (asked (P.Some r) asks) (beat_tick t (view g) s.records)
+      (λ b is typed at. ran topics_of t (heartbeat b) at typed g g' buf buf' list list' size (omega (arith, wide, heartbeat_tells g b x y z)) o
+      (subst (λ (q : Request). Becomes topics_of o g g' buf' list' (λ h. step h (heartbeat q) buf list)) is becomes) still)
 
 -- ---- a sweep, after the places that are gone were made silent
 
-abbrev silenced : List ℕ → Parts → Parts
-silenced ms p = record { head = p.head; members = ms; target = p.target; holder = p.holder; waiting = p.waiting }
-
-made_silent : (t : ℕ) (ids counts ps ms : List ℕ) (p : Parts) → view_members ms ≡ silent (session_before t) ps 0 (view_members p.members)
-    → view (with_topics ids counts (silenced ms p)) ≡ (removing t (view (with_topics ids counts p)) ps).group
-unfolding view view_with removing
-made_silent t ids counts ps ms p e = λ i. record {
-  epoch = get_or p.head 0 0;
-  target_epoch = get_or p.head 1 0;
-  tick = get_or p.head 2 0;
-  topics = view_topics ids counts;
+made_silent : (t : ℕ) (ps : List ℕ) (g : Group) (ms : List ℕ) → view_members ms ≡ silent (session_before t) ps 0 (view_members g.members.cells)
+    → view (record { head = g.head; members = record { cells = ms }; topics = g.topics; tables = g.tables }) ≡ (removing t (view g) ps).group
+unfolding view removing
+made_silent t ps g ms e = λ i. record {
+  epoch = g.head.epoch;
+  target_epoch = g.head.target_epoch;
+  tick = g.head.tick;
+  topics = topics_in g.topics;
   members = e i;
-  slots = view_lists p.target p.holder p.waiting;
+  slots = slots_in g.tables;
 }
 
-few : (ids counts : List ℕ) (p : Parts) → length (view (with_topics ids counts p)).members ≤ max_members
-unfolding view view_with
-few ids counts p = omega (arith, members_long p.members)
+few : (g : Group) → length (view g).members ≤ max_members
+unfolding view
+few g = omega (arith, members_long g.members.cells)
 
 as_removing : (t : ℕ) (g : G.Group) (ps batch : List ℕ)
     → judged t batch (some (record { group = (removing t g ps).group; event = sweep t })) ≡ judged t batch (some (removing t g ps))
 unfolding removing
 as_removing t g ps batch = refl
 
-pub sweep_ran : (t : ℕ) (ids counts : List ℕ) (p p' : Parts) (ms buf buf' : List ℕ) → length buf ≡ batch_limit
-    → (o : Outcome) → Becomes view_parts o (silenced ms p) p' buf' [] (λ g. step g (sweep t) buf [])
-    → (ps : List ℕ) → view_members ms ≡ silent (session_before t) ps 0 (view_members p.members)
-    → retimed t (view (with_topics ids counts p)) ≡ view (with_topics ids counts p)
-    → Ran o.written buf' (view (with_topics ids counts p')) t (some (removing t (view (with_topics ids counts p)) ps))
+pub sweep_ran : (t : ℕ) (g g' : Group) (ms buf buf' : List ℕ) → length buf ≡ batch_limit
+    → (o : Outcome) → Becomes topics_of o (record { head = g.head; members = record { cells = ms }; topics = g.topics; tables = g.tables }) g' buf' [] (λ h. step h (sweep t) buf [])
+    → (ps : List ℕ) → view_members ms ≡ silent (session_before t) ps 0 (view_members g.members.cells)
+    → retimed t (view g) ≡ view g → Ran o.written buf' (view g') t (some (removing t (view g) ps))
 unfolding is_typed
-sweep_ran t ids counts p p' ms buf buf' size o b ps silent still batch fair =
-    let g : G.Group = view (with_topics ids counts p) in
-    let h : G.Group = (removing t g ps).group in
-    judges t h (sweep t) (λ _. removing_keeps t g still (few ids counts p) ps) refl buf [] batch fair.stored (omega (arith, size, fair.short))
-    (sweep_tells h t) o (view (with_topics ids counts p')) buf' []
-    (ap (λ (x : G.Group). took o x buf' []) (view_topics_lem ids counts p') ∙ b.1 (view_topics ids counts)
-    ∙ ap (λ (x : G.Group). step x (sweep t) buf []) (sym (view_topics_lem ids counts (silenced ms p)) ∙ made_silent t ids counts ps ms p silent))
-    ∙ as_removing t g ps batch
+sweep_ran t g g' ms buf buf' size o b ps silent still batch fair =
+    let h : G.Group = (removing t (view g) ps).group in
+    judges t h (sweep t) (λ _. removing_keeps t (view g) still (few g) ps) refl buf [] batch fair.stored (omega (arith, size, fair.short))
+    (sweep_tells h t) o (view g') buf' [] (b.2 ∙ ap (λ (x : G.Group). step x (sweep t) buf []) (made_silent t ps g ms silent))
+    ∙ as_removing t (view g) ps batch

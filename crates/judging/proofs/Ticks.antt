@@ -16,10 +16,11 @@ use Rattle.rules.specs.Constants.{max_members, subscription_count}
 use Rattle.rules.specs.Group as G
 use Rattle.rules.specs.Batches.{heard_at, retimed, retimed_member, silent}
 use Rattle.recovery.proofs.Judging.{at_silent}
-use Rattle.tables.specs.View.{view_lists}
+use Rattle.tables.specs.View.{slots_in}
 use Rattle.group.specs.Columns.{cell_count, cell, cell_of, member_of, view_members, view_place}
 use Rattle.group.specs.Members as M
-use Rattle.group.specs.View.{view_with}
+use Rattle.group.specs.View.{topics_in, view}
+use Rattle.group.specs.declared.Group.{Group}
 use Rattle.group.proofs.Columns.{member_at_lem, members_long}
 use Rattle.batches.specs.Gathered.{Marks}
 
@@ -89,20 +90,18 @@ all_ticked t ms₀ ms p h w =
     member_at_lem ms k b ∙ place_ticked t ms₀ ms all k b ∙ ap (retimed_member t) (sym (member_at_lem ms₀ k b))
     ∙ sym (get_or-map (retimed_member t) (view_members ms₀) k none))
 
--- the group, whatever the rest of it is
-pub head_ticked : (h : List ℕ) (t : ℕ) → length h ≡ 3 → (get_or (set h 2 t) 0 0 ≡ get_or h 0 0) × (get_or (set h 2 t) 1 0 ≡ get_or h 1 0) × (get_or (set h 2 t) 2 0 ≡ t)
-head_ticked [] t n = absurd (omega (arith, n))
-head_ticked (x ∷ []) t n = absurd (omega (arith, n))
-head_ticked (x ∷ y ∷ []) t n = absurd (omega (arith, n))
-head_ticked (x ∷ y ∷ z ∷ h) t n = (refl, refl, refl)
-
-pub group_ticked : (t : ℕ) (h ms₀ ms : List ℕ) → length h ≡ 3 → view_members ms ≡ map (retimed_member t) (view_members ms₀)
-    → (topics : List (Option G.Topic)) (target holder : List ℕ) (waiting : List Bool)
-    → view_with topics (set h 2 t) ms target holder waiting ≡ retimed t (view_with topics h ms₀ target holder waiting)
-unfolding view_with retimed
-group_ticked t h ms₀ ms n e topics target holder waiting =
-    let k = head_ticked h t n in
-    λ i. record { epoch = k.0 i; target_epoch = k.1 i; tick = k.2 i; topics = topics; members = e i; slots = view_lists target holder waiting }
+pub group_ticked : (t : ℕ) (g : Group) (ms : List ℕ) → view_members ms ≡ map (retimed_member t) (view_members g.members.cells)
+    → view (record { head = record { epoch = g.head.epoch; target_epoch = g.head.target_epoch; tick = t }; members = record { cells = ms }; topics = g.topics; tables = g.tables })
+    ≡ retimed t (view g)
+unfolding view retimed
+group_ticked t g ms e = λ i. record {
+  epoch = g.head.epoch;
+  target_epoch = g.head.target_epoch;
+  tick = t;
+  topics = topics_in g.topics;
+  members = e i;
+  slots = slots_in g.tables;
+}
 
 -- ---- the places that are gone are silent
 

@@ -1,16 +1,22 @@
 -- The heartbeat that the records of a batch can only be of, as the code makes it.
 use Rattle.std.specs.Prelude.{ℕ, ◌≡◌, Bool, true, false, List, [], eqb, ℤ, pos, negsuc, if◌then◌else◌}
+use Rattle.std.specs.Prelude as P
 use Rattle.std.proofs.Math.Option.{Option, none, some}
 use Rattle.rules.specs.Basics.{case_of}
 use Rattle.rules.specs.Group as G
-use Rattle.rules.specs.Records.{Record}
+use Rattle.rules.specs.Records.{MemberMetadata, Record}
 use Rattle.rules.specs.Event.{Request, heartbeat}
 use Rattle.rules.specs.Batches.{current_in, entering, is_typed, member_in, moving}
 use Rattle.group.specs.Columns.{view_members}
 use Rattle.events.specs.Outcomes.{request_of}
+use Rattle.events.specs.declared.Request as Code
+use Rattle.reading.specs.declared.Member.{Member}
 use Rattle.batches.specs.declared.Gathered.{Gathered}
 use Rattle.batches.specs.Gathered.{Says}
-use Rattle.judging.specs.declared.asking.Asked.{Asked}
+
+-- what a record 5 says
+abbrev pub metadata_as : Member → MemberMetadata
+metadata_as m = record { place = m.place; id = m.id; timeout = m.timeout; subscription = m.subscription }
 
 -- what of a timeout is new
 unfoldable pub timeout_given : ℕ → ℕ → ℤ
@@ -31,13 +37,15 @@ beating_as t m timeout subscription moves = record {
 unfoldable pub beat_in : ℕ → G.Group → List Record → Option Request
 beat_in t g rs = case_of (member_in rs) (case_of (current_in rs) none (λ c. some (moving t g c))) (λ m. some (entering t g rs m))
 
--- the code's heartbeat is this one, and good if its numbers fit; where there is none it is not good
-abbrev pub Asks : Asked → Option Request → Type 0
-Asks a none = a.good ≡ false
-Asks a (some b) = (a.good ≡ is_typed (heartbeat b)) × (a.good ≡ true → request_of a.request [] ≡ b)
+-- the code's heartbeat is this one, if its numbers fit; where there is none the code has none
+abbrev pub Asks : P.Option Code.Request → Option Request → Type 0
+Asks P.None none = Unit {0}
+Asks (P.Some r) none = ⊥
+Asks P.None (some b) = is_typed (heartbeat b) ≡ false
+Asks (P.Some r) (some b) = (is_typed (heartbeat b) ≡ true) × (request_of r [] ≡ b)
 
 -- it is that of the records that were gathered, for every group that has these members
-abbrev pub AsksFor : Asked → List ℕ → Gathered → ℕ → Type 0
+abbrev pub AsksFor : P.Option Code.Request → List ℕ → Gathered → ℕ → Type 0
 AsksFor a members said t =
     (bytes : List ℕ) (table : List Bool) (entries entries' : List ℕ) (s : Says bytes said table entries entries') (g : G.Group)
     → g.members ≡ view_members members → Asks a (beat_in t g s.records)

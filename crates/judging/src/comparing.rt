@@ -9,15 +9,5 @@ pub fn is_batch(buffer: &[u8], n: usize, batch: &[u8]) -> bool
     if buffer.len() < n {
         return false;
     }
-    if n != batch.len() {
-        return false;
-    }
-    let mut i: usize = 0;
-    while i < n {
-        if buffer[i] != batch[i] {
-            return false;
-        }
-        i += 1;
-    }
-    true
+    &buffer[..n] == batch
 }

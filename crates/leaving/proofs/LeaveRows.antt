@@ -1,26 +1,30 @@
 -- What a heartbeat that leaves comes to, by the tests of its rows; and the effect's records and group, by what the code decides.
 use Prim.Native.Nat.{ℕ}
-use mathlib.Core.Path.{◌≡◌, ◌∙◌}
+use mathlib.Core.Path.{◌≡◌, ap, ◌∙◌}
 use mathlib.Core.Bool.{Bool, true, false, not}
 use mathlib.Core.List.{List, map}
-use mathlib.Core.Option.{Option, none}
+use mathlib.Core.Option.{none}
 use lib.Dec.{leb}
-use lib.ListN.{length, get_or, set}
+use lib.ListN.{set}
+use Rattle.std.specs.Bool.{then_some}
 use Rattle.rules.specs.Basics.{any}
 use Rattle.rules.specs.Constants.{last_epoch}
-use Rattle.rules.specs.Group.{Group, Topic, known, place_of, targeted, raised}
+use Rattle.rules.specs.Group.{Group, known, place_of, targeted, raised}
 use Rattle.rules.specs.Event.{Request}
 use Rattle.rules.specs.Refusals.{leaves, first_of, goes_back, zero_id, heartbeat_table, at_end}
 use Rattle.rules.specs.Effects.{changed, vacated, remove, leave_records, leave_at, leave_effect, heartbeat_effect}
 use Rattle.rules.specs.Step.{carry_out}
 use Rattle.rules.specs.declared.Refusal.TheVariants.{Clock, InvalidRequest, UnknownMemberId}
-use Rattle.tables.specs.View.{view_lists}
+use Rattle.tables.specs.View.{slots_in}
 use Rattle.group.specs.Columns.{view_members}
-use Rattle.group.specs.Parts.{Parts, view_parts}
-use Rattle.group.specs.View.{view_with}
+use Rattle.group.specs.View.{view}
+use Rattle.group.specs.declared.Group as D
+use Rattle.records.specs.Storing.{leave_batch}
+use Rattle.records.specs.declared.batches.LeaveBatch.{LeaveBatch}
+use Rattle.records.proofs.Batching.{leave_is_records}
 use Rattle.events.specs.Outcomes.{carried, step_as}
 use Rattle.events.proofs.Carrying.{denied}
-use Rattle.events.proofs.Lent.{parts_changed}
+use Rattle.events.proofs.Lent.{group_changed}
 
 -- ---- the rows
 
@@ -45,15 +49,16 @@ module _ (g : Group) (q : Request) (b l : List ℕ) where
 
 -- ---- the effect
 
-module _ (ts : List (Option Topic)) (g : Parts) (p tick : ℕ) {e : ℕ} (he : e ≡ raised (get_or g.head 0 0)) where
-  pub leave_records_lem : {retargets raises : Bool} → retargets ≡ any (targeted p) (view_lists g.target g.holder g.waiting) → raises ≡ not (leb last_epoch (get_or g.head 0 0))
-      → leave_records p retargets raises e ≡ (leave_at (view_parts ts g) p tick).records
-  unfolding leave_at view_parts view_with at_end
-  leave_records_lem ht hr = λ i. leave_records p (ht i) (hr i) (he i)
+module _ (g : D.Group) (p tick : ℕ) {e : ℕ} (he : e ≡ raised g.head.epoch) where
+  pub leave_records_are : (x : LeaveBatch) {raises : Bool} → x.gone.place.0 ≡ p → x.gone.retargets ≡ any (targeted p) (slots_in g.tables) → raises ≡ not (leb last_epoch g.head.epoch)
+      → x.epoch ≡ then_some raises (record { 0 = e }) → leave_batch x ≡ (leave_at (view g) p tick).records
+  unfolding leave_at view at_end
+  leave_records_are x {raises} hp ht hr o = leave_is_records x raises (record { 0 = e }) o ∙ (λ i. leave_records (hp i) (ht i) (hr i) (he i))
 
-  pub leave_group : (g' : Parts) → length g.head ≡ 3 → g'.head ≡ set (set g.head 0 e) 2 tick → view_members g'.members ≡ set (view_members g.members) p none
-      → view_lists g'.target g'.holder g'.waiting ≡ map (vacated p) (view_lists g.target g.holder g.waiting) → view_parts ts g' ≡ (leave_at (view_parts ts g) p tick).group
-  unfolding leave_at remove view_parts view_with changed
-  leave_group g' n h m s =
-      parts_changed ts g g' e tick n h m s
-      ∙ (λ i. changed (view_parts ts g) (he i) tick (set (view_members g.members) p none) (map (vacated p) (view_lists g.target g.holder g.waiting)))
+  pub leave_group : (g' : D.Group) → g'.head ≡ record { epoch = e; target_epoch = g.head.target_epoch; tick = tick } → g'.topics ≡ g.topics
+      → view_members g'.members.cells ≡ set (view_members g.members.cells) p none → slots_in g'.tables ≡ map (vacated p) (slots_in g.tables)
+      → view g' ≡ (leave_at (view g) p tick).group
+  unfolding leave_at remove view changed
+  leave_group g' h k m s =
+      group_changed g g' e tick h k m s
+      ∙ ap (λ (n : ℕ). changed (view g) n tick (set (view_members g.members.cells) p none) (map (vacated p) (slots_in g.tables))) he

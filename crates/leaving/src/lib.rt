@@ -4,72 +4,49 @@
 ghost use Rattle.std.specs.Prelude.{List, ℕ};
 ghost use Rattle.rules.specs.Refusals.{leaves};
 ghost use Rattle.rules.specs.Effects.{leave_at};
-ghost use Rattle.group.specs.Parts.{before, after, view_parts};
-ghost use Rattle.events.specs.Outcomes.{Becomes, request_of, carried, step_as};
+ghost use Rattle.events.specs.Outcomes.{Becomes, carried, outcome_of, topics_of, request_of, step_as};
 
-use events::{Outcome, Request, refused};
-use group::{CELLS, EPOCH, Found, TICK, epochs, ids, members, ticks};
-use records::batches;
-use rules::{Answer, Place, Refusal, SLOTS};
+use events::{Outcome, Request};
+use group::{Group, epochs, ids, ticks};
+use records::batches::{GoneBatch, LeaveBatch};
+use records::kinds::GroupEpoch;
+use rules::{Answer, Place, Refusal};
 
 // The member at a place leaves.
-fn leave_at<'a>(
-    head: &'a mut [u32; 3],
-    members: &'a mut [u32; CELLS],
-    target: &'a mut [u8; SLOTS],
-    holder: &'a mut [u8; SLOTS],
-    waiting: &'a mut [bool; SLOTS],
-    p: Place,
-    tick: u32,
-    records: &mut [u8],
-) -> Outcome
-    ensures { (l : List ℕ) → Becomes view_parts result (before head members target holder waiting) (after head members target holder waiting) records.new l (λ g. carried g (leave_at g p.0 tick) records.old l) }
+fn leave_at(group: &mut Group, p: Place, tick: u32, records: &mut [u8]) -> Result<Outcome, Refusal>
+    ensures { (l : List ℕ) → Becomes topics_of (outcome_of result) group.old group.new records.new l (λ g. carried g (leave_at g p.0 tick) records.old l) }
 {
-    group::whole(head, members, target, holder, waiting);
-    let had = head[EPOCH];
-    let retargets = tables::has_target(target, p);
-    let raises = !epochs::at_end(had);
+    let had = group.head.epoch;
     let epoch = epochs::raised_epoch(had);
-    let size = batches::leave_records_len(p, retargets, raises, epoch);
-    if records.len() < size {
-        return refused(Refusal::Room);
-    }
-    let written = batches::put_leave_records(records, p, retargets, raises, epoch);
-    members::vacate(members, p);
-    tables::vacate(target, holder, waiting, p);
-    head[EPOCH] = epoch;
-    head[TICK] = tick;
-    Outcome {
+    let raises = !epochs::at_end(had);
+    let batch = LeaveBatch {
+        gone: GoneBatch {
+            place: p,
+            retargets: group.tables.has_target(p),
+        },
+        epoch: raises.then_some(GroupEpoch(epoch)),
+    };
+    let written = records::store(records, batch)?;
+    group.members.vacate(p);
+    group.tables.vacate(p);
+    group.head.epoch = epoch;
+    group.head.tick = tick;
+    Ok(Outcome {
         answer: Answer::Left,
-        written: written,
-    }
+        written,
+    })
 }
 
 // The member with the request's ID leaves; of the request only its ID and its tick are looked at.
-pub fn leave<'a>(
-    head: &'a mut [u32; 3],
-    members: &'a mut [u32; CELLS],
-    target: &'a mut [u8; SLOTS],
-    holder: &'a mut [u8; SLOTS],
-    waiting: &'a mut [bool; SLOTS],
-    b: Request,
-    records: &mut [u8],
-) -> Outcome
-    ensures { (owned l : List ℕ) → Becomes view_parts result (before head members target holder waiting) (after head members target holder waiting) records.new l (λ g. step_as leaves g (request_of b owned) records.old l) }
+pub fn leave(group: &mut Group, b: Request, records: &mut [u8]) -> Result<Outcome, Refusal>
+    ensures { (owned l : List ℕ) → Becomes topics_of (outcome_of result) group.old group.new records.new l (λ g. step_as leaves g (request_of b owned) records.old l) }
 {
-    group::whole(head, members, target, holder, waiting);
-    let id = b.id;
-    let tick = b.tick;
-    let last = head[TICK];
-    if ticks::goes_back(last, tick) {
-        return refused(Refusal::Clock);
+    if ticks::goes_back(group.head.tick, b.tick) {
+        return Err(Refusal::Clock);
     }
-    if ids::is_zero(id) {
-        return refused(Refusal::InvalidRequest);
+    if ids::is_zero(b.id) {
+        return Err(Refusal::InvalidRequest);
     }
-    let found = members::find(members, id);
-    match found {
-        Found::At(p) => leave_at(head, members, target, holder, waiting, p, tick, records),
-        Found::Nowhere => refused(Refusal::UnknownMemberId),
-    }
+    let p = group.members.find(b.id).ok_or(Refusal::UnknownMemberId)?;
+    leave_at(group, p, b.tick, records)
 }

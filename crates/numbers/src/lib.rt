@@ -2,9 +2,9 @@
 // What a writer promises is in specs/Buffer.antt; the laws by which writers are put together are in proofs/Writing.antt.
 #![tactic(auto)]
 
-ghost use Rattle.std.specs.Prelude.{◌≡◌, ◌+◌, ◌≤◌, length};
+ghost use Rattle.std.specs.Prelude.{◌≡◌, ◌≤◌, length};
 ghost use Rattle.rules.specs.Records.{number};
-ghost use Rattle.numbers.specs.Buffer.{Wrote, WroteAt};
+ghost use Rattle.numbers.specs.Buffer.{Wrote};
 
 use rules::{ID_LENGTH, Id};
 
@@ -15,6 +15,7 @@ pub fn put_number(buf: &mut [u8], x: u32) -> usize
 {
     let mut at: usize = 0;
     let mut rest = x;
+    // As it is: no plainer as a `for`, which would need a bound on the number's groups, and a way out at the last
     while rest >= 128 {
         buf[at] = (rest % 128 + 128) as u8;
         at += 1;
@@ -24,20 +25,13 @@ pub fn put_number(buf: &mut [u8], x: u32) -> usize
     at + 1
 }
 
-// Writes `x` at the place `at` and returns the place after it.
-pub fn put_number_at(buf: &mut [u8], at: usize, x: u32) -> usize
-    requires { at + length (number x) ≤ length buf.old }
-    ensures { WroteAt (number x) at buf.old buf.new result }
-{
-    at + put_number(&mut buf[at..], x)
-}
-
 // How many bytes `x` takes.
 pub fn number_len(x: u32) -> usize
     ensures { (result ≡ length (number x)) × (result ≤ 5) }
 {
     let mut n: usize = 1;
     let mut rest = x;
+    // As it is: no plainer as a `for`, as in `put_number`
     while rest >= 128 {
         rest = rest / 128;
         n += 1;
@@ -50,18 +44,6 @@ pub fn put_id(buf: &mut [u8], id: Id) -> usize
     requires { length id ≤ length buf.old }
     ensures { Wrote id buf.old buf.new result }
 {
-    let mut i: usize = 0;
-    while i < ID_LENGTH {
-        buf[i] = id[i];
-        i += 1;
-    }
+    buf[..ID_LENGTH].copy_from_slice(&id);
     ID_LENGTH
-}
-
-// Writes the 16 bytes of an ID at the place `at` and returns the place after them.
-pub fn put_id_at(buf: &mut [u8], at: usize, id: Id) -> usize
-    requires { at + length id ≤ length buf.old }
-    ensures { WroteAt id at buf.old buf.new result }
-{
-    at + put_id(&mut buf[at..], id)
 }

@@ -1,45 +1,48 @@
--- The member that was found: its seat is gathered from the columns at its place. And the group after it is heard.
-use Prim.Native.Nat.{ℕ}
-use mathlib.Core.Path.{◌≡◌, refl, ap, ◌∙◌}
-use mathlib.Core.List.{List}
-use mathlib.Core.Option.{Option, none, some}
-use lib.ListN.{length, get_or, set}
+-- The member that was found, and the group after it is heard. Assumes nothing.
+use Rattle.std.specs.Prelude.{set, get_or}
+use Rattle.std.proofs.Common.{◌≡◌, ℕ, false, List, ap, ◌∙◌}
+use Rattle.std.proofs.Math.Option.{Option, none, some}
 use Rattle.rules.specs.Basics.{any, default, find}
 use Rattle.rules.specs.Group as G
 use Rattle.rules.specs.Group.{is_member, known, place_of, member_at}
+use Rattle.rules.specs.Refusals.{zero_id, sender_of}
 use Rattle.rules.specs.Effects.{changed}
-use Rattle.group.specs.Columns.{view_members, seat_at}
+use Rattle.rules.specs.declared.Place.{Place}
+use Rattle.tables.specs.View.{slots_in}
+use Rattle.group.specs.Columns.{numbers_at, view_members}
 use Rattle.group.specs.Members.{heard_at}
-use Rattle.group.specs.Parts.{Parts, view_parts}
 use Rattle.group.specs.Searches.{Hit}
-use Rattle.group.specs.View.{seated, view_with}
-use Rattle.group.proofs.Finding as F
-use Rattle.events.proofs.Lent.{head_tick, parts_changed}
+use Rattle.group.specs.View.{view, seated}
+use Rattle.group.specs.declared.Group.{Group}
+use Rattle.group.proofs.Finding.{found_used, found_same, found_member}
+use Rattle.events.specs.declared.Outcome.{Outcome}
+use Rattle.events.specs.declared.Request.{Request}
+use Rattle.events.proofs.Lent.{group_changed}
+use Rattle.ordinary.specs.Plans.{asked, view_sender, sender_at, Sends, Heard}
 use Rattle.ordinary.proofs.Staying.{heard_last}
 
-module _ (ts : List (Option G.Topic)) (g : Parts) (id : List ℕ) {p : ℕ} (h : Hit (known (view_parts ts g) id) (place_of (view_parts ts g) id) p) where
-  hit : Hit (any (is_member id) (view_members g.members)) (find (is_member id) (view_members g.members)) p
-  unfolding known place_of view_parts view_with
+module _ (g : Group) (b : Request) (l : Option (List ℕ)) (p : Place) (h : Hit (known (view g) b.id) (place_of (view g) b.id) p.0) where
+  hit : Hit (any (is_member b.id) (view_members g.members.cells)) (find (is_member b.id) (view_members g.members.cells)) p.0
+  unfolding known place_of view
   hit = h
 
-  pub found_same : (seat_at g.members p).id ≡ id
-  found_same = F.found_same g.members id hit
+  pub seat_found : get_or (view_members g.members.cells) p.0 none ≡ some (seated (numbers_at g.members.cells p.0))
+  seat_found = found_member g.members.cells b.id hit
 
-  pub found_seat : get_or (view_members g.members) p none ≡ some (seated (seat_at g.members p))
-  found_seat = F.found_member g.members id hit
+  -- the sender is the member with the ID, at its place
+  pub who : sender_of (view g) (asked b l) ≡ view_sender (sender_at g.members.cells p)
+  unfolding member_at view
+  who = λ i. record { place = h.first i; member = (ap (member_at (view g)) h.first ∙ ap (default _) seat_found) i }
 
-  pub found_member : member_at (view_parts ts g) p ≡ seated (seat_at g.members p)
-  unfolding member_at view_parts view_with
-  found_member = ap (default _) found_seat
+  pub same_id : (numbers_at g.members.cells p.0).id ≡ b.id
+  same_id = found_same g.members.cells b.id hit
 
--- ---- heard at a tick
+  pub sends : zero_id b.id ≡ false → Sends g.members.cells p b
+  sends z = record { below = h.below; there = found_used g.members.cells b.id hit; own = same_id; real = z }
 
-module _ (ts : List (Option G.Topic)) (g : Parts) (p tick : ℕ) (head members : List ℕ) (n : length g.head ≡ 3) (m : G.Member) (here : get_or (view_members g.members) p none ≡ some m)
-    (eh : head ≡ set g.head 2 tick) (em : view_members members ≡ set (view_members g.members) p (heard_at tick (get_or (view_members g.members) p none))) where
-  pub heard_group : view_parts ts (record { head = head; members = members; target = g.target; holder = g.holder; waiting = g.waiting })
-      ≡ changed (view_parts ts g) (view_parts ts g).epoch tick (set (view_parts ts g).members p (some (heard_last m tick))) (view_parts ts g).slots
-  unfolding view_parts view_with
-  heard_group =
-      let g' : Parts = record { head = head; members = members; target = g.target; holder = g.holder; waiting = g.waiting } in
-      let ms = em ∙ ap (λ (x : Option G.Member). set (view_members g.members) p (heard_at tick x)) here in
-      parts_changed ts g g' (get_or g.head 0 0) tick n (eh ∙ head_tick g.head tick n) ms refl
+-- heard at a tick
+pub heard_group : (g g' : Group) (p tick epoch : ℕ) (l list list' : List ℕ) (r : Outcome) (m : G.Member) → get_or (view_members g.members.cells) p none ≡ some m
+    → Heard g p tick epoch l list r g' list' → view g' ≡ changed (view g) (view g).epoch tick (set (view g).members p (some (heard_last m tick))) (view g).slots
+unfolding view
+heard_group g g' p tick epoch l list list' r m here d =
+    group_changed g g' g.head.epoch tick d.head_is d.topics_stay (d.members_are ∙ ap (λ (x : Option G.Member). set (view_members g.members.cells) p (heard_at tick x)) here) (λ i. slots_in (d.tables_stay i))

@@ -1,44 +1,30 @@
 -- A pick over the slots is a set of slots, so that a list which is A of a place is no bad one. Assumes nothing.
-use Rattle.std.specs.Prelude.{if◌then◌else◌}
 use Prim.Native.Nat.{ℕ, suc, ◌+◌, ◌≤◌}
 use native.Mathlib.Omega.{arith}
 use mathlib.Core.Path.{◌≡◌, refl, sym, ap, ◌∙◌}
 use mathlib.Core.Bool.{Bool, true, false, not, ◌&&◌}
 use mathlib.Core.List.{List, [], ◌∷◌}
-use lib.Dec.{ltb, leb}
+use lib.Dec.{ltb}
 use lib.ListN.{length}
-use borrow.Author.Tests.{lt-ltb, le-leb, leb-true}
 use Rattle.rules.specs.Basics.{all, indices, rising}
 use Rattle.rules.specs.Constants.{slot_count}
 use Rattle.rules.specs.Group.{SlotState, assigned, set_a}
 use Rattle.rules.specs.Refusals.{is_slot_set, bad_list}
-use Rattle.rules.proofs.Lists.{and_true}
 use Rattle.quiet.specs.Settling.{Quiet}
 
 -- from a lower number on
 lower : (l : List ℕ) (n : ℕ) → rising (suc n) l ≡ true → rising n l ≡ true
 lower [] n e = refl
-lower (x ∷ l) n e =
-    let h = and_true (leb (suc n) x) (rising (suc x) l) e in
-    let q : n ≤ x = omega (arith, leb-true (suc n) x h.0) in
-    rw (le-leb n x q) h.1
+lower (x ∷ l) n e = grind arith
 
 module _ {A : Type 0} (f : A → Bool) where
   picked_rise : (n : ℕ) (l : List A) → rising n (indices f n l) ≡ true
   picked_rise n [] = refl
-  picked_rise n (x ∷ l) = go (f x) (picked_rise (suc n) l)
-    where
-      go : (b : Bool) → rising (suc n) (indices f (suc n) l) ≡ true → rising n (if b then n ∷ indices f (suc n) l else indices f (suc n) l) ≡ true
-      go true h = rw (le-leb n n (omega arith)) h
-      go false h = lower (indices f (suc n) l) n h
+  picked_rise n (x ∷ l) = grind (arith, picked_rise (suc n) l, lower (indices f (suc n) l) n)
 
   picked_below : (n k : ℕ) (l : List A) → n + length l ≤ k → all (λ s. ltb s k) (indices f n l) ≡ true
   picked_below n k [] h = refl
-  picked_below n k (x ∷ l) h = go (f x) (picked_below (suc n) k l (omega arith))
-    where
-      go : (b : Bool) → all (λ s. ltb s k) (indices f (suc n) l) ≡ true → all (λ s. ltb s k) (if b then n ∷ indices f (suc n) l else indices f (suc n) l) ≡ true
-      go true e = rw (lt-ltb n k (omega arith)) e
-      go false e = e
+  picked_below n k (x ∷ l) h = grind (arith, picked_below (suc n) k l)
 
 pub quiet_good : {p : ℕ} {vs : List SlotState} {l : List ℕ} → Quiet p vs l → length vs ≡ slot_count → bad_list l ≡ false
 unfolding bad_list is_slot_set set_a

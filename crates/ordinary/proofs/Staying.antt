@@ -1,5 +1,5 @@
 -- The step of a heartbeat that changes nothing but the two ticks: the answer has the list, and nothing is stored. Assumes nothing.
-use Prim.Native.Nat.{ℕ, ◌≤◌, max}
+use Prim.Native.Nat.{ℕ, ◌≤◌}
 use native.Mathlib.Omega.{arith}
 use mathlib.Core.Path.{◌≡◌, refl, ap, ◌∙◌}
 use mathlib.Core.Bool.{false}
@@ -19,9 +19,6 @@ use Rattle.rules.specs.declared.Answer.TheVariants.{Assigned}
 use Rattle.rules.proofs.Lists.{same_refl}
 use Rattle.quiet.specs.Settling.{Quiet}
 use Rattle.ordinary.specs.Plans.{ordinary_step}
-
-max_left : (a b : ℕ) → b ≤ a → max a b ≡ a
-max_left a b h = omega arith
 
 -- the member, heard at a tick
 abbrev pub heard_last : Member → ℕ → Member
@@ -61,7 +58,7 @@ module _ (g : Group) (s : Sender) (b : Request) (l : List ℕ) (named : s.member
 
   epoch_stays : epoch_after g s b ≡ s.member.epoch
   unfolding epoch_after
-  epoch_stays = rw (revokes_none, given, not_waiting) (max_left s.member.epoch g.target_epoch reached)
+  epoch_stays = rw (revokes_none, given, not_waiting) (omega (arith, reached))
 
   only_heard : member_after g s b ≡ heard_last s.member b.tick
   unfolding member_after

@@ -12,7 +12,7 @@ use lib.ListN.{length, get_or-replicate}
 use Rattle.rules.specs.Constants.{slot_count}
 use Rattle.rules.specs.Event as E
 use Rattle.rules.specs.Group as G
-use Rattle.rules.specs.Group.{SlotState, set_a, set_p, raised}
+use Rattle.rules.specs.Group.{SlotState, set_a, set_p}
 use Rattle.rules.specs.Refusals.{new_subscription, new_timeout, resubscribes}
 use Rattle.rules.specs.Effects.{waits, strays, advanced, slots_after, revokes, epoch_after, member_after, updates, moves, current_of, current_before, current_after}
 use Rattle.rules.specs.declared.Place.{Place}
@@ -22,7 +22,7 @@ use Rattle.records.specs.Views.{view_current}
 use Rattle.records.proofs.Differences.{slots_none}
 use Rattle.tables.specs.Changes.{followed_by}
 use Rattle.tables.specs.Gathers.{Gathers}
-use Rattle.tables.specs.Advances.{owned_of, Advances}
+use Rattle.tables.specs.Advances.{Advances}
 use Rattle.tables.specs.declared.advancing.Advance.{Advance}
 use Rattle.tables.specs.declared.gathering.PlaceSets.{PlaceSets}
 use Rattle.tables.proofs.Listing.{gathered_assigned, gathered_revoking}
@@ -31,46 +31,42 @@ use Rattle.group.specs.declared.member.Member.{Member}
 use Rattle.group.specs.View.{seated}
 use Rattle.group.specs.Transitions.{view_member, no_slots, member_of, member_stored, member_heard}
 use Rattle.events.specs.declared.Request.{Request}
-use Rattle.events.specs.Outcomes.{request_of}
 use Rattle.ordinary.proofs.Freeing.{none_revoking, stays}
-use Rattle.ordinary.specs.Plans.{view_sender, stored_subscription, stored_timeout, stepped_by, member_next, PlanIs}
+use Rattle.ordinary.specs.Plans.{asked, view_sender, stored_subscription, stored_timeout, stepped_by, member_next, PlanIs}
 
 no_slots_lem : slots_of no_slots.words ≡ []
 no_slots_lem = slots_none no_slots.words (has_none no_slots.words (λ k h. get_or-replicate word_count k 0 0 h))
 
 -- ---- the member after the steps, by the decisions that the step made
 
-module _ (g : G.Group) (b : Request) (l : List ℕ) (p : Place) (seat : Seat) (sets : PlaceSets) (step : Advance) (hid : seat.id ≡ b.id)
+module _ (g : G.Group) (b : Request) (owned : Option (List ℕ)) (p : Place) (seat : Seat) (sets : PlaceSets) (step : Advance) (hid : seat.id ≡ b.id)
     (len : length g.slots ≡ slot_count)
-    (hs : Gathers p.0 g.slots sets) (ha : Advances p.0 g.slots (owned_of b.has_list l) step) where
+    (hs : Gathers p.0 g.slots sets) (ha : Advances p.0 g.slots owned step) where
   abbrev sender : G.Sender
   sender = view_sender (record { place = p; seat = seat })
 
   abbrev request : E.Request
-  request = request_of b l
+  request = asked b owned
 
-  -- the slots before, and the list
+  -- the slots before
   abbrev vs : List SlotState
   vs = g.slots
 
-  abbrev given : Option (List ℕ)
-  given = owned_of b.has_list l
-
   revokes_so : revokes g sender request ≡ step.revokes
-  unfolding revokes request_of
+  unfolding revokes
   revokes_so = sym ha.revokes_is
 
   epoch_so : epoch_after g sender request ≡ (if step.waits || step.revokes then seat.epoch else max seat.epoch g.target_epoch)
-  unfolding epoch_after request_of
+  unfolding epoch_after
   epoch_so = λ i. if sym ha.waits_is i || revokes_so i then seat.epoch else max seat.epoch g.target_epoch
 
-  slots_so : advanced p.0 vs given ≡ slots_after g sender request
-  unfolding slots_after request_of
+  slots_so : advanced p.0 vs owned ≡ slots_after g sender request
+  unfolding slots_after
   slots_so = refl
 
   -- slots are revoked only where the member does not wait
   one_only : step.waits ≡ true → step.revokes ≡ false
-  one_only h = ha.revokes_is ∙ ap (λ (w : Bool). not w && strays p.0 vs given) (sym ha.waits_is ∙ h)
+  one_only h = ha.revokes_is ∙ ap (λ (w : Bool). not w && strays p.0 vs owned) (sym ha.waits_is ∙ h)
 
   abbrev next : Member
   next = member_next seat sets step b g.target_epoch
@@ -80,6 +76,16 @@ module _ (g : G.Group) (b : Request) (l : List ℕ) (p : Place) (seat : Seat) (s
   decided w r =
       stepped_by (record { assigned = step.assigned; revoking = step.revoking; waits = w; frees = step.frees; revokes = r; changed = step.changed }) g.target_epoch b.tick
       (member_heard (member_stored (member_of seat sets.assigned sets.revoking) (stored_subscription seat b) (stored_timeout seat b)) b.tick)
+
+  -- what holds in each of the three ways that a heartbeat goes: it waits, it revokes, or neither
+  ways : (P : Bool → Bool → Type 0) → (step.waits ≡ true → P true false) → (step.waits ≡ false → P false true) → (step.waits ≡ false → step.revokes ≡ false → P false false) → P step.waits step.revokes
+  ways P waiting revoking neither = go step.waits step.revokes refl refl
+    where
+      go : (w r : Bool) → step.waits ≡ w → step.revokes ≡ r → P w r
+      go true true e f = absurd (true≢false (sym f ∙ one_only e))
+      go true false e f = waiting e
+      go false true e f = revoking e
+      go false false e f = neither e f
 
   who_so : view_member next
       ≡ record {
@@ -91,25 +97,19 @@ module _ (g : G.Group) (b : Request) (l : List ℕ) (p : Place) (seat : Seat) (s
         revoked_at = if step.revokes then b.tick else seat.revoked_at;
       }
   unfolding member_next stepped_by
-  who_so = go step.waits step.revokes one_only
-    where
-      go : (w r : Bool) → (w ≡ true → r ≡ false)
-          → view_member (decided w r)
-          ≡ record {
-            id = seat.id;
-            epoch = if w || r then seat.epoch else max seat.epoch g.target_epoch;
-            subscription = stored_subscription seat b;
-            timeout = stored_timeout seat b;
-            heard = b.tick;
-            revoked_at = if r then b.tick else seat.revoked_at;
-          }
-      go true true h = absurd (true≢false (h refl))
-      go true false h = refl
-      go false true h = refl
-      go false false h = refl
+  who_so =
+      ways (λ w r. view_member (decided w r)
+      ≡ record {
+        id = seat.id;
+        epoch = if w || r then seat.epoch else max seat.epoch g.target_epoch;
+        subscription = stored_subscription seat b;
+        timeout = stored_timeout seat b;
+        heard = b.tick;
+        revoked_at = if r then b.tick else seat.revoked_at;
+      }) (λ e. refl) (λ e. refl) (λ e f. refl)
 
   member_so : view_member next ≡ member_after g sender request
-  unfolding member_after new_subscription new_timeout request_of
+  unfolding member_after new_subscription new_timeout
   member_so =
       who_so
       ∙ sym (λ i. record {
@@ -124,46 +124,43 @@ module _ (g : G.Group) (b : Request) (l : List ℕ) (p : Place) (seat : Seat) (s
   -- A and P of the member, as the rules list them
   assigned_so : slots_of next.assigned.words ≡ set_a p.0 (slots_after g sender request)
   unfolding member_next stepped_by
-  assigned_so = go step.waits step.revokes refl ∙ ap (set_a p.0) slots_so
-    where
-      go : (w r : Bool) → step.waits ≡ w → slots_of (decided w r).assigned.words ≡ set_a p.0 (advanced p.0 vs given)
-      go true r h = gathered_assigned p.0 vs len sets hs ∙ ap (set_a p.0) (sym (stays p.0 vs given (sym ha.waits_is ∙ h)))
-      go false true h = ha.assigned_list
-      go false false h = ha.assigned_list
+  assigned_so =
+      ways (λ w r. slots_of (decided w r).assigned.words ≡ set_a p.0 (advanced p.0 vs owned))
+      (λ e. gathered_assigned p.0 vs len sets hs ∙ ap (set_a p.0) (sym (stays p.0 vs owned (sym ha.waits_is ∙ e)))) (λ e. ha.assigned_list) (λ e f. ha.assigned_list)
+      ∙ ap (set_a p.0) slots_so
 
   revoking_so : slots_of next.revoking.words ≡ set_p p.0 (slots_after g sender request)
   unfolding member_next stepped_by
-  revoking_so = go step.waits step.revokes refl refl ∙ ap (set_p p.0) slots_so
+  revoking_so =
+      ways (λ w r. slots_of (decided w r).revoking.words ≡ set_p p.0 (advanced p.0 vs owned))
+      (λ e. gathered_revoking p.0 vs len sets hs ∙ ap (set_p p.0) (sym (stays p.0 vs owned (sym ha.waits_is ∙ e)))) (λ e. ha.revoking_list) none_left
+      ∙ ap (set_p p.0) slots_so
     where
-      go : (w r : Bool) → step.waits ≡ w → step.revokes ≡ r → slots_of (decided w r).revoking.words ≡ set_p p.0 (advanced p.0 vs given)
-      go true r h k = gathered_revoking p.0 vs len sets hs ∙ ap (set_p p.0) (sym (stays p.0 vs given (sym ha.waits_is ∙ h)))
-      go false true h k = ha.revoking_list
-      go false false h k =
-          let w : waits p.0 vs given ≡ false = sym ha.waits_is ∙ h in
-          let st : strays p.0 vs given ≡ false = sym (ap (λ (x : Bool). not x && strays p.0 vs given) w) ∙ sym ha.revokes_is ∙ k in
-          no_slots_lem ∙ sym (none_revoking p.0 vs given w st)
+      none_left : step.waits ≡ false → step.revokes ≡ false → slots_of no_slots.words ≡ set_p p.0 (advanced p.0 vs owned)
+      none_left e f =
+          let w : waits p.0 vs owned ≡ false = sym ha.waits_is ∙ e in
+          let st : strays p.0 vs owned ≡ false = sym (ap (λ (x : Bool). not x && strays p.0 vs owned) w) ∙ sym ha.revokes_is ∙ f in
+          no_slots_lem ∙ sym (none_revoking p.0 vs owned w st)
 
   -- ---- the plan
 
-  module _ (n : Member) (hn : n ≡ next) (ht : followed_by step.changed step.frees step.revokes p.0 vs ≡ advanced p.0 vs given) (e : ℕ) (u v : Bool)
-      (he : e ≡ (if not (eqb n.subscription seat.subscription) then raised g.epoch else g.epoch))
+  module _ (n : Member) (hn : n ≡ next) (ht : followed_by step.changed step.frees step.revokes p.0 vs ≡ advanced p.0 vs owned) (u v : Bool)
       (hu : u ≡ (not (eqb n.subscription seat.subscription) || not (eqb n.timeout seat.timeout)))
       (hv : v ≡ (not (eqb n.epoch seat.epoch) || step.changed)) where
     who : view_member n ≡ member_after g sender request
     who = ap view_member hn ∙ member_so
 
     raises_so : not (eqb n.subscription seat.subscription) ≡ resubscribes (seated seat) request
-    unfolding resubscribes member_after request_of
+    unfolding resubscribes member_after
     raises_so = λ i. not (eqb (who i).subscription seat.subscription)
 
-    pub plan_is : PlanIs g (record { place = p; seat = seat }) request (record { member = n; changed = step.changed; frees = step.frees; revokes = step.revokes; epoch = e; updates = u; raises = not (eqb n.subscription seat.subscription); moves = v })
-    unfolding request_of member_after updates moves current_of current_before current_after slots_after view_current
+    pub plan_is : PlanIs g (record { place = p; seat = seat }) request (record { member = n; changed = step.changed; frees = step.frees; revokes = step.revokes; updates = u; raises = not (eqb n.subscription seat.subscription); moves = v })
+    unfolding member_after updates moves current_of current_before current_after slots_after view_current
     plan_is = record {
       member_is = who;
       current_is = λ i. record { place = p.0; epoch = (who i).epoch; assigned = (ap (λ (m : Member). slots_of m.assigned.words) hn ∙ assigned_so) i; revoking = (ap (λ (m : Member). slots_of m.revoking.words) hn ∙ revoking_so) i };
       slots_are = ht;
       raises_is = raises_so;
-      epoch_is = he;
       updates_is = hu ∙ (λ i. raises_so i || not (eqb (who i).timeout seat.timeout));
       moves_is = hv ∙ (λ i. not (eqb (who i).epoch seat.epoch) || ha.changed_is i);
     }

@@ -2,39 +2,36 @@
 ghost use Rattle.std.specs.Prelude.{◌≡◌, ◌||◌, [], if◌then◌else◌};
 ghost use Rattle.rules.specs.Basics.{default};
 ghost use Rattle.rules.specs.Refusals.{zero_id, bad_timeout, bad_list};
-ghost use Rattle.tables.specs.Advances.{owned_of};
+ghost use Rattle.tables.specs.Advances.{listed};
 
-use events::{Outcome, Request, refused};
+use events::Request;
 use group::{ids, requests};
-use rules::{Answer, Refusal};
+use rules::Refusal;
 
 // Whether the ID is all zero or the timeout is out of range.
 pub fn is_malformed(b: Request) -> bool
     ensures { result ≡ (zero_id b.id || bad_timeout b.timeout) }
 {
-    let id = b.id;
-    if ids::is_zero(id) {
-        return true;
-    }
-    requests::is_bad_timeout(b.timeout)
+    ids::is_zero(b.id) || requests::is_bad_timeout(b.timeout)
 }
 
 // Whether a list is given that is no set of slots.
-pub fn lists_badly(given: bool, owned: &[u16]) -> bool
-    ensures { result ≡ bad_list (default [] (owned_of given owned.now)) }
+#[tactic(auto, unfolding(rules::specs::Refusals::bad_list, rules::specs::Refusals::is_slot_set))]
+pub fn lists_badly(owned: Option<&[u16]>) -> bool
+    ensures { result ≡ bad_list (default [] (listed owned.entry)) }
 {
-    if given {
-        return requests::is_bad_list(owned);
+    match owned {
+        Some(list) => requests::is_bad_list(list),
+        None => false,
     }
-    false
 }
 
-// Refused by a row below the first row 42: a bad list comes before.
-pub fn refused_below(given: bool, owned: &[u16], why: Refusal) -> Outcome
-    ensures { result ≡ record { answer = Answer.Refused (if bad_list (default [] (owned_of given owned.now)) then Refusal.InvalidRequest else why); written = 0 } }
+// What a row below the first row 42 refuses with: a bad list comes before.
+pub fn after_list(owned: Option<&[u16]>, why: Refusal) -> Refusal
+    ensures { result ≡ (if bad_list (default [] (listed owned.entry)) then Refusal.InvalidRequest else why) }
 {
-    if lists_badly(given, owned) {
-        return refused(Refusal::InvalidRequest);
+    if lists_badly(owned) {
+        return Refusal::InvalidRequest;
     }
-    refused(why)
+    why
 }

@@ -1,9 +1,7 @@
--- A reply has the numbers of the answer that it was made of, and a group is made of the part that an event was lent and of the rest (Resting of judging): so
--- what a function of the coordinator ensures is what the library's ensures.
+-- A reply has the numbers of the outcome that it was made of: so what a function of the coordinator ensures is what the library's ensures.
 use Prim.Native.Nat.{ℕ}
 use mathlib.Core.Path.{◌≡◌, refl, sym, ap, ◌∙◌, subst}
 use mathlib.Core.List.{List}
-use Rattle.rules.specs.Group as G
 use Rattle.rules.specs.Answers.{Said, said}
 use Rattle.rules.specs.Event.{Event}
 use Rattle.rules.specs.Step.{step}
@@ -14,7 +12,7 @@ use Rattle.group.specs.View.{view}
 use Rattle.events.specs.declared.Outcome.{Outcome}
 use Rattle.events.specs.Outcomes.{took, SameIfRefused, Becomes}
 use Rattle.pankvisolo.specs.declared.Reply.{Reply}
-use Rattle.pankvisolo.specs.Replies.{replied, report_of, said_by, Serves}
+use Rattle.pankvisolo.specs.Replies.{Tells, replied, report_of, Serves}
 
 -- a number that is not 0 is a refusal's
 same : (a : Answer) {A : Type 0} (x y : A) → SameIfRefused a x y → ((said a).number ≡ 0 → ⊥) → y ≡ x
@@ -24,17 +22,13 @@ same (Swept n) x y e h = absurd (h refl)
 same Done x y e h = absurd (h refl)
 same (Refused why) x y e h = e
 
-module _ (o : Outcome) (r : Reply) (says : (said_by r ≡ said o.answer) × (r.written ≡ o.written)) where
-  pub serves : {Rest Part : Type 0} (shows : Rest → Part → G.Group) (made : Part → Group) (rest : Rest) → ((p : Part) → view (made p) ≡ shows rest p)
-      → (event : Event) (p p' : Part) (records records' list list' : List ℕ) → Becomes shows o p p' records' list' (λ g. step g event records list)
-      → Serves event (made p) (made p') r records records' list list'
-  unfolding replied report_of took
-  serves shows made rest is event p p' records records' list list' b = record {
-    steps =
-        (λ i. record { said = says.0 i; group = is p' i; written = says.1 i; buffer = records'; list = list' })
-        ∙ ap report_of (b.1 rest) ∙ ap (λ (g : G.Group). report_of (step g event records list)) (sym (is p));
-    keeps = λ h. ap made (same o.answer p p' b.0 (λ z. h (ap (λ (s : Said). s.number) says.0 ∙ z)));
-  }
+pub serves : {Kept : Type 0} (kept : Group → Kept) (o : Outcome) {r : Reply} → Tells o r → (event : Event) (g g' : Group) (records records' list list' : List ℕ)
+    → Becomes kept o g g' records' list' (λ h. step h event records list) → Serves event g g' r records records' list list'
+unfolding replied report_of took
+serves kept o says event g g' records records' list list' b = record {
+  steps = (λ i. record { said = says.0 i; group = view g'; written = says.1 i; buffer = records'; list = list' }) ∙ ap report_of b.2;
+  keeps = λ h. same o.answer g g' b.0 (λ z. h (ap (λ (s : Said). s.number) says.0 ∙ z));
+}
 
 -- the same of an event that is another's equal
 pub same_event : {e e' : Event} {g g' : Group} {r : Reply} {records records' list list' : List ℕ}

@@ -1,9 +1,9 @@
 -- What the functions that read a journal hand a host.
-use Rattle.std.specs.Prelude.{ℕ, ◌≡◌, List, length}
+use Rattle.std.specs.Prelude.{ℕ, ◌≡◌, List, Result, Ok, Err, length}
 use Rattle.rules.specs.Journal.{Verdict, read_journal, refused_at, torn_from, whole}
 use Rattle.frames.specs.Forms.{ExtentAt}
-use Rattle.frames.specs.declared.Extent as F
-use Rattle.frames.specs.declared.Extent.TheVariants as Found
+use Rattle.frames.specs.declared.NoBatch.{NoBatch}
+use Rattle.frames.specs.declared.NoBatch.TheVariants as Found
 use Rattle.group.specs.declared.Group.{Group}
 use Rattle.group.specs.View.{view}
 use Rattle.pankvisolo.specs.declared.Extent.{Extent}
@@ -30,14 +30,14 @@ pub record Recovers (t : ℕ) (bytes : List ℕ) (g : Group) (r : Reading) : Typ
 -- ---- batch by batch
 
 -- the numbers of what stands at a place
-abbrev pub numbers_of : ℕ → F.Extent → Extent
-numbers_of at (Found.Batch start end) = record { verdict = 3; start = start; end = end }
-numbers_of at Found.End = record { verdict = 0; start = at; end = at }
-numbers_of at Found.Torn = record { verdict = 1; start = at; end = at }
-numbers_of at Found.Bad = record { verdict = 2; start = at; end = at }
+abbrev pub numbers_of : ℕ → Result (ℕ × ℕ) NoBatch → Extent
+numbers_of at (Ok found) = record { verdict = 3; start = found.0; end = found.1 }
+numbers_of at (Err Found.End) = record { verdict = 0; start = at; end = at }
+numbers_of at (Err Found.Torn) = record { verdict = 1; start = at; end = at }
+numbers_of at (Err Found.Bad) = record { verdict = 2; start = at; end = at }
 
 -- what stands at a place of the bytes, where a length would
 pub record Stands (bytes : List ℕ) (at : ℕ) (r : Extent) : Type 0 where
-  pub extent : F.Extent
+  pub extent : Result (ℕ × ℕ) NoBatch
   pub there : ExtentAt bytes at extent
   pub told : r ≡ numbers_of at extent

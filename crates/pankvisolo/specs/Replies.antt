@@ -6,6 +6,7 @@ use Rattle.rules.specs.Event.{Event}
 use Rattle.rules.specs.Step.{Stepped, step}
 use Rattle.group.specs.declared.Group.{Group}
 use Rattle.group.specs.View.{view}
+use Rattle.events.specs.declared.Outcome.{Outcome}
 use Rattle.pankvisolo.specs.declared.Reply.{Reply}
 
 pub record Report : Type 0 where
@@ -22,6 +23,10 @@ report_of s = record { said = said s.answer; group = s.group; written = s.writte
 -- the numbers of a reply
 abbrev pub said_by : Reply → Said
 said_by r = record { number = r.number; epoch = r.epoch; interval = r.interval; count = r.count; slot = r.slot }
+
+-- a reply has the numbers of an outcome
+abbrev pub Tells : Outcome → Reply → Type 0
+Tells o r = (said_by r ≡ said o.answer) × (r.written ≡ o.written)
 
 -- what the function handed back, with the group, the buffer and the list as they then are
 unfoldable pub replied : Reply → Group → List ℕ → List ℕ → Report

@@ -1,6 +1,6 @@
 // The functions that hosts call. A group is the host's, and an event changes it where it lies; buffers and lists are lent too; an answer comes as plain numbers.
 // No function asks anything of its caller: the contracts settle every value of every parameter. With a number that is not 0 every byte of the group is as it was.
-// A function that takes a group does nothing but lend its parts, all for one lifetime. The static library pankvisolo_c exports each function under its name.
+// The static library pankvisolo_c exports each function under its name.
 #![tactic(auto)]
 
 ghost use Rattle.std.specs.Prelude.{◌≡◌, List, ℕ};
@@ -20,8 +20,7 @@ ghost use Rattle.pankvisolo.specs.Recovery.{Recovers, Stands};
 ghost use Rattle.pankvisolo.specs.Runs.{LibrarySingleHolder, LibrarySettles};
 ghost use Rattle.pankvisolo.specs.Lives.{LibraryContinues};
 
-mod lent; // lent.rt: the events over a group whose parts are all lent
-mod recovering; // recovering.rt: a journal read into such a group
+mod plain; // plain.rt: answers, verdicts and extents as plain numbers
 
 use events::Request;
 use group::Group;
@@ -93,36 +92,14 @@ pub fn pankvisolo_heartbeat(
 ) -> Reply
     ensures { Serves (E.heartbeat (request_of request.now owned.now)) group.old group.new result records.old records.new list.old list.new }
 {
-    lent::heartbeat(
-        &mut group.head,
-        &mut group.members,
-        &mut group.topic_ids,
-        &mut group.topic_counts,
-        &mut group.target,
-        &mut group.holder,
-        &mut group.waiting,
-        *request,
-        owned,
-        records,
-        list,
-    )
+    coordinator::heartbeat(group, *request, owned, records, list).into()
 }
 
 // Removes each member that has not been heard for the session timeout, or has slots to give back for longer than its rebalance timeout.
 pub fn pankvisolo_sweep(group: &mut Group, tick: u32, records: &mut [u8]) -> Reply
     ensures { (l : List ℕ) → Serves (E.sweep tick) group.old group.new result records.old records.new l l }
 {
-    lent::sweep(
-        &mut group.head,
-        &mut group.members,
-        &mut group.topic_ids,
-        &mut group.topic_counts,
-        &mut group.target,
-        &mut group.holder,
-        &mut group.waiting,
-        tick,
-        records,
-    )
+    coordinator::sweep(group, tick, records).into()
 }
 
 // Makes a topic, or raises its count.
@@ -135,19 +112,7 @@ pub fn pankvisolo_set_topic(
 ) -> Reply
     ensures { (l : List ℕ) → Serves (E.topic number id.bytes count) group.old group.new result records.old records.new l l }
 {
-    lent::set_topic(
-        &mut group.head,
-        &mut group.members,
-        &mut group.topic_ids,
-        &mut group.topic_counts,
-        &mut group.target,
-        &mut group.holder,
-        &mut group.waiting,
-        number,
-        id,
-        count,
-        records,
-    )
+    coordinator::topic(group, number, id.bytes, count, records).into()
 }
 
 // Installs a target: for each slot a place, or 255 for none.
@@ -159,25 +124,14 @@ pub fn pankvisolo_install(
 ) -> Reply
     ensures { (l : List ℕ) → Serves (E.install E.with_rule epoch entries.now) group.old group.new result records.old records.new l l }
 {
-    lent::install(
-        &mut group.head,
-        &mut group.members,
-        &mut group.topic_ids,
-        &mut group.topic_counts,
-        &mut group.target,
-        &mut group.holder,
-        &mut group.waiting,
-        epoch,
-        entries,
-        records,
-    )
+    coordinator::install(group, epoch, entries, records).into()
 }
 
 // Writes the target of the range assignor for the group as it is: for each slot a place, or 255 for none. It changes nothing of the group.
 pub fn pankvisolo_range_target(group: &Group, entries: &mut [u8; SLOTS])
     ensures { entries.new ≡ range_target (view group.now) }
 {
-    assignor::range_target(&group.members, &group.topic_counts, entries)
+    assignor::range_target(group, entries)
 }
 
 // Reads a journal at a tick into the group, whatever that held. What holds of every reading is `JournalTheorems`; and brokers that run on this library, one after
@@ -185,63 +139,21 @@ pub fn pankvisolo_range_target(group: &Group, entries: &mut [u8; SLOTS])
 pub fn pankvisolo_read_journal(group: &mut Group, tick: u32, bytes: &[u8]) -> Reading
     ensures { Recovers tick bytes.now group.new result × JournalTheorems × LibraryContinues }
 {
-    recovering::read_journal(
-        &mut group.head,
-        &mut group.members,
-        &mut group.topic_ids,
-        &mut group.topic_counts,
-        &mut group.target,
-        &mut group.holder,
-        &mut group.waiting,
-        tick,
-        bytes,
-    )
+    plain::reading(journal::read(group, tick, bytes), bytes.len())
 }
 
 // Reads one batch for the group so far. A batch that is refused leaves every byte of the group as it was.
 pub fn pankvisolo_read_batch(group: &mut Group, tick: u32, batch: &[u8]) -> bool
     ensures { Reads result group.old group.new tick batch.now }
 {
-    recovering::read_batch(
-        &mut group.head,
-        &mut group.members,
-        &mut group.topic_ids,
-        &mut group.topic_counts,
-        &mut group.target,
-        &mut group.holder,
-        &mut group.waiting,
-        tick,
-        batch,
-    )
+    judging::read_batch(group, tick, batch)
 }
 
 // What stands at a place of a journal, where a length would.
 pub fn pankvisolo_next_batch(bytes: &[u8], at: usize) -> Extent
     ensures { Stands bytes.now at result }
 {
-    let extent = frames::read_extent(bytes, at);
-    match extent {
-        frames::Extent::Batch(start, end) => Extent {
-            verdict: BATCH,
-            start: start,
-            end: end,
-        },
-        frames::Extent::End => Extent {
-            verdict: WHOLE,
-            start: at,
-            end: at,
-        },
-        frames::Extent::Torn => Extent {
-            verdict: TORN,
-            start: at,
-            end: at,
-        },
-        frames::Extent::Bad => Extent {
-            verdict: REFUSED,
-            start: at,
-            end: at,
-        },
-    }
+    plain::extent(frames::read_extent(bytes, at), at)
 }
 
 // Writes what a journal stores of an event, the length of its records and the records, and returns how many bytes that is: 0, and nothing is written, if there are

@@ -7,6 +7,7 @@ use mathlib.Core.Path.{◌≡◌, refl, sym, ap, ap₂, ◌∙◌, subst}
 use mathlib.Core.Bool.{Bool, true, false, true≢false}
 use mathlib.Core.List.{List, [], ◌∷◌}
 use lib.ListN.{length}
+use Rattle.std.proofs.lemmas.Grind.{common_steps}
 use Rattle.rules.specs.Basics.{keep, up_to}
 use Rattle.slots.specs.Set.{select}
 
@@ -32,8 +33,7 @@ abbrev front : Bool → ℕ → List ℕ → List ℕ
 front b n r = if b then n ∷ r else r
 
 front_ge : (b : Bool) (n : ℕ) (r : List ℕ) → length r ≤ length (front b n r)
-front_ge true n r = omega arith
-front_ge false n r = omega arith
+front_ge b n r = grind (arith, common_steps)
 
 no_length : (l : List ℕ) → length l ≡ 0 → l ≡ []
 no_length [] h = refl

@@ -1,106 +1,74 @@
 // Whether the list of a heartbeat is all that its place has and is to have, so that the heartbeat moves no slot: the test in front of the commonest one.
-// The tables are lent, and no set is gathered.
+// No set is gathered.
 #![tactic(auto)]
 
-ghost use Rattle.std.specs.Prelude.{◌≡◌, true, ◌+◌, ◌≤◌, if◌then◌else◌};
+ghost use Rattle.std.specs.Prelude.{◌≡◌, true, ◌+◌, ◌<◌, ◌≤◌};
 ghost use Rattle.rules.specs.Constants.{slot_count};
 ghost use Rattle.rules.specs.Refusals.{is_slot_set};
-ghost use Rattle.tables.specs.View.{view_lists};
-ghost use Rattle.quiet.specs.Settling.{part_length, near_count, settled_slot, AllSettled, Quiet};
+ghost use Rattle.tables.specs.View.{slots_in, slot_at, Whole};
+ghost use Rattle.quiet.specs.Settling.{part_length, near_count, settled, AllSettled, Quiet};
 
 use rules::{Place, SLOTS};
 use search::rising;
+use tables::Tables;
 
 // The slots that are counted by one byte.
 const PART: usize = 128;
 
 // How many slots are near p, which holds them or is to have them, of the part that begins at `from`. The sum is a byte, so that the loop goes by as many
 // slots as a vector has bytes.
-fn count_part<'a>(target: &'a [u8; SLOTS], holder: &'a [u8; SLOTS], from: usize, p: Place) -> u8
+fn count_part(tables: &Tables, from: usize, p: Place) -> u8
     requires { from + part_length ≤ slot_count }
-    ensures { (near_count target.now holder.now p.0 (from + part_length) ≡ near_count target.now holder.now p.0 from + result) × (result ≤ part_length) }
+    ensures counts { near_count tables.now p.0 (from + part_length) ≡ near_count tables.now p.0 from + result }
+    ensures few { result ≤ part_length }
+    ensures whole { Whole tables.now }
 {
-    let targets: &[u8] = target;
-    let holders: &[u8] = holder;
     let mut n: u8 = 0;
-    let mut i: usize = 0;
-    while i < PART {
-        let t = target[from + i];
-        let h = holder[from + i];
-        i += 1;
-        if (h == p.0) | (t == p.0) {
-            n += 1;
-        }
+    for i in 0..PART {
+        n += u8::from((tables.holder[from + i] == p.0) | (tables.target[from + i] == p.0));
     }
     n
 }
 
 // How many slots are near p.
-fn count<'a>(target: &'a [u8; SLOTS], holder: &'a [u8; SLOTS], p: Place) -> usize
-    ensures { result ≡ near_count target.now holder.now p.0 slot_count }
+fn count(tables: &Tables, p: Place) -> usize
+    ensures whole { Whole tables.now }
+    ensures counts { result ≡ near_count tables.now p.0 slot_count }
 {
     let mut n: usize = 0;
-    let mut from: usize = 0;
-    while from < SLOTS {
-        n += count_part(target, holder, from, p) as usize;
-        from += PART;
+    for part in 0..SLOTS / PART {
+        n += count_part(tables, part * PART, p) as usize;
     }
     n
 }
 
-// 0 where p holds the slot, is to have it, and need not give it back; else 1.
-fn mark(target: u8, holder: u8, waiting: bool, p: Place) -> u8
-    ensures { result ≡ (if settled_slot p.0 target holder waiting then 0 else 1) }
+// Whether p holds the slot, is to have it, and need not give it back.
+#[tactic(auto, unfolding(crate::specs::Settling::settled))]
+fn is_settled(tables: &Tables, p: Place, slot: usize) -> bool
+    requires { slot < slot_count }
+    ensures { result ≡ settled p.0 (slot_at tables.now slot) }
 {
-    if holder != p.0 {
-        return 1;
-    }
-    if target != p.0 {
-        return 1;
-    }
-    if waiting {
-        return 1;
-    }
-    0
+    (tables.holder[slot] == p.0) & (tables.target[slot] == p.0) & !tables.waiting[slot]
 }
 
 // Whether each slot of a list is held by p, is to be, and is not to be given back; `true` says so, `false` says nothing. No slot is branched on.
-fn settled<'a>(
-    target: &'a [u8; SLOTS],
-    holder: &'a [u8; SLOTS],
-    waiting: &'a [bool; SLOTS],
-    p: Place,
-    list: &'a [u16],
-) -> bool
+fn all_settled(tables: &Tables, p: Place, list: &[u16]) -> bool
     requires { is_slot_set list.now ≡ true }
-    ensures { result ≡ true → AllSettled target.now holder.now waiting.now p.0 list.now }
+    ensures { result ≡ true → AllSettled tables.now p.0 list.now }
 {
-    let mut marks: u8 = 0;
-    let mut i: usize = 0;
-    while i < list.len() {
-        let k = list[i] as usize;
-        i += 1;
-        marks = marks | mark(target[k], holder[k], waiting[k], p);
+    let mut all = true;
+    for s in list {
+        all &= is_settled(tables, p, *s as usize);
     }
-    marks == 0
+    all
 }
 
 // Whether the list is A of the place p, and steps 2 and 3 change nothing for it; `true` says so, `false` says nothing.
-pub fn is_quiet<'a>(
-    target: &'a [u8; SLOTS],
-    holder: &'a [u8; SLOTS],
-    waiting: &'a [bool; SLOTS],
-    p: Place,
-    list: &'a [u16],
-) -> bool
-    ensures { result ≡ true → Quiet p.0 (view_lists target.now holder.now waiting.now) list.now }
+pub fn is_quiet(tables: &Tables, p: Place, list: &[u16]) -> bool
+    ensures { result ≡ true → Quiet p.0 (slots_in tables.now) list.now }
 {
-    tables::sized(target, holder, waiting);
-    if rising::is_slot_set(list) {
-        if settled(target, holder, waiting, p, list) {
-            return count(target, holder, p) == list.len();
-        }
+    if !rising::is_slot_set(list) {
         return false;
     }
-    false
+    all_settled(tables, p, list) && count(tables, p) == list.len()
 }

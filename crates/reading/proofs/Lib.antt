@@ -2,6 +2,5 @@ pub mod Places
 pub mod Groups
 pub mod Bytes
 pub mod Rising
-pub mod ByKind
 pub mod Narrowing
 pub mod Walking

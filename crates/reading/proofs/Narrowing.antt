@@ -184,11 +184,11 @@ module _ (make : ℕ → Record) (same : (n : ℕ) → fits (make n) ≡ (in_ran
       (λ n e b. lost (make n) b (one_fits n false e)) b
 
 epoch_narrow : (b : List ℕ) → only fits (and_then (read_number b) (λ n. pure (group_epoch n))) ≡ epoch32 b
-unfolding epoch32 ◌>>=◌ fits numbers_of
+unfolding ◌>>=◌ fits numbers_of
 epoch_narrow b = one_narrow group_epoch (λ n. refl) b
 
 target_epoch_narrow : (b : List ℕ) → only fits (and_then (read_number b) (λ n. pure (target_epoch n))) ≡ target_epoch32 b
-unfolding target_epoch32 ◌>>=◌ fits numbers_of
+unfolding ◌>>=◌ fits numbers_of
 target_epoch_narrow b = one_narrow target_epoch (λ n. refl) b
 
 abbrev topic_of : ℕ → List ℕ → ℕ → Record
@@ -199,7 +199,7 @@ unfolding fits numbers_of
 topic_fits t id n x y e f = rw (e, f)
 
 topic_narrow : (b : List ℕ) → only fits (read_topic b) ≡ topic32 b
-unfolding read_topic topic32 ◌>>=◌
+unfolding read_topic ◌>>=◌
 topic_narrow b =
     number_narrow fits (λ t. λ b. and_then (read_bytes id_length b) (λ id. λ b. and_then (read_number b) (λ n. pure (topic_of t id n))))
     (λ t. λ b. and_then (read_bytes id_length b) (λ id. λ b. and_then (number32 b) (λ n. pure (topic_of t id n))))
@@ -218,7 +218,7 @@ unfolding fits numbers_of
 member_fits p id m n x y z e f g = rw (e, f, g)
 
 present_narrow : (p : ℕ) → in_range p ≡ true → (b : List ℕ) → only fits (read_present p b) ≡ present32 p b
-unfolding read_present present32 ◌>>=◌
+unfolding read_present ◌>>=◌
 present_narrow p e b =
     then_narrow fits _ _ (read_bytes id_length b) (λ id b. number_narrow fits (λ m. λ b. and_then (read_number b) (λ n. pure (member_of p id m n)))
     (λ m. λ b. and_then (number32 b) (λ n. pure (member_of p id m n)))
@@ -252,7 +252,7 @@ member_lost p false true f b = present_lost p f b
 member_lost p false false f b = refuses fits b
 
 member_narrow : (b : List ℕ) → only fits (read_member b) ≡ member32 b
-unfolding read_member member32 ◌>>=◌
+unfolding read_member ◌>>=◌
 member_narrow b =
     number_narrow fits (λ p. λ b. and_then (byte b) (λ k. if eqb k 0 then pure (member_gone p) else (if eqb k 1 then read_present p else refuse)))
     (λ p. λ b. and_then (byte b) (λ k. if eqb k 0 then pure (member_gone p) else (if eqb k 1 then present32 p else refuse)))
@@ -268,7 +268,7 @@ unfolding fits numbers_of
 target_fits p s x e = one_fits (λ n. target_of n s) (λ n. refl) p x e
 
 target_narrow : (b : List ℕ) → only fits (read_target b) ≡ target32 b
-unfolding read_target target32 ◌>>=◌
+unfolding read_target ◌>>=◌
 target_narrow b =
     number_narrow fits (λ p. λ b. and_then (read_set b) (λ s. pure (target_of p s))) (λ p. λ b. and_then (set32 b) (λ s. pure (target_of p s)))
     (λ p e b. then_narrow fits _ _ (read_set b) (λ s b. kept (target_of p s) b (target_fits p s true e))
@@ -287,7 +287,7 @@ both_sets : ℕ → ℕ → Reader Record
 both_sets p n b = and_then (read_set b) (λ a. λ b. and_then (read_set b) (λ q. pure (current_of p n a q)))
 
 sets_narrow : (p n : ℕ) → in_range p ≡ true → in_range n ≡ true → (b : List ℕ) → only fits (both_sets p n b) ≡ sets32 p n b
-unfolding both_sets sets32 ◌>>=◌
+unfolding both_sets ◌>>=◌
 sets_narrow p n e f b =
     then_narrow fits _ (λ a. λ b. and_then (set32 b) (λ q. pure (current_of p n a q))) (read_set b)
     (λ a b. then_narrow fits _ _ (read_set b) (λ q b. kept (current_of p n a q) b (current_fits p n a q true true e f))
@@ -320,7 +320,7 @@ current_lost p n true e b = lost (current_gone p) b (current_gone_fits p false e
 current_lost p n false e b = sets_lost p n false (in_range n) e refl refl b
 
 current_narrow : (b : List ℕ) → only fits (read_current b) ≡ current32 b
-unfolding read_current current32 ◌>>=◌ both_sets
+unfolding read_current ◌>>=◌ both_sets
 current_narrow b =
     number_narrow fits (λ p. λ b. and_then (read_number b) (λ n. if eqb n 0 then pure (current_gone p) else both_sets p n))
     (λ p. λ b. and_then (number32 b) (λ n. if eqb n 0 then pure (current_gone p) else sets32 p n))
@@ -330,7 +330,7 @@ current_narrow b =
     b
 
 kind_narrow : (k : ℕ) (b : List ℕ) → only fits (read_kind k b) ≡ kind32 k b
-unfolding read_kind kind32 ◌>>=◌
+unfolding read_kind ◌>>=◌
 kind_narrow k b = pick (eqb k 3) (eqb k 4) (eqb k 5) (eqb k 6) (eqb k 7) (eqb k 8)
   where
     pick : (c₃ c₄ c₅ c₆ c₇ c₈ : Bool)
@@ -349,5 +349,5 @@ kind_narrow k b = pick (eqb k 3) (eqb k 4) (eqb k 5) (eqb k 6) (eqb k 7) (eqb k 
 
 -- a record whose numbers fit, read field by field
 pub record_narrow : (b : List ℕ) → read_fitting b ≡ record32 b
-unfolding read_fitting read_record record32 ◌>>=◌
+unfolding read_fitting read_record ◌>>=◌
 record_narrow b = then_narrow fits read_kind kind32 (byte b) kind_narrow

@@ -1,48 +1,40 @@
--- Reading at a place: what is read there, and what then at the place after it.
+-- Reading field by field: what is read at a place, and what then at the place after it.
 use Rattle.std.specs.Prelude.{if◌then◌else◌}
 use mathlib.Core.Path.{◌≡◌, refl, sym, ap, ◌∙◌}
 use mathlib.Core.Bool.{Bool, true, false}
-use mathlib.Core.List.{List, []}
+use mathlib.Core.List.{List}
 use mathlib.Core.Option.{Option, none, some}
-use Prim.Native.Nat.{ℕ, ◌≤◌, ◌<◌}
-use native.Mathlib.Decide.{dec_lt}
-use native.Mathlib.Omega.{arith}
+use Prim.Native.Nat.{ℕ}
 use lib.Dec.{leb}
-use lib.ListN.{length, drop, drop_of_length-le}
-use borrow.Author.Tests.{le-leb, lt-leb}
-use Rattle.rules.specs.Reader.{Reader, pure, refuse, and_then, ◌>>=◌}
-use Rattle.reading.specs.Places.{read_at, Reads}
+use lib.ListN.{length, drop}
+use Rattle.rules.specs.Reader.{Reader, and_then, pure, ◌>>=◌}
 
-module _ {A : Type 0} (m : Reader A) (s : List ℕ) (at : ℕ) where
-  pub read_within : at ≤ length s → read_at m s at ≡ m (drop at s)
-  unfolding read_at
-  read_within h = rw (le-leb at (length s) h)
+module _ {A B : Type 0} (m : Reader A) (f : A → Reader B) where
+  -- a field is found
+  pub goes_on : {b rest : List ℕ} {a : A} → m b ≡ some (a, rest) → (m >>= f) b ≡ f a rest
+  unfolding ◌>>=◌ and_then
+  goes_on e = rw e
 
-  pub read_beyond : length s < at → read_at m s at ≡ none
-  unfolding read_at
-  read_beyond h = rw (lt-leb at (length s) h)
+  -- a field is missing
+  pub stops : {b : List ℕ} → m b ≡ none → (m >>= f) b ≡ none
+  unfolding ◌>>=◌ and_then
+  stops e = rw e
 
-  -- a reader that wants a byte finds nothing at the end or beyond it
-  pub read_place : m [] ≡ none → read_at m s at ≡ m (drop at s)
-  read_place z = go (dec_lt (length s) at)
-    where
-      go : Dec (length s < at) → read_at m s at ≡ m (drop at s)
-      go (yes h) =
-          let past : length s ≤ at = omega arith in
-          read_beyond h ∙ sym (ap m (drop_of_length-le s past) ∙ z)
-      go (no h) = read_within (omega arith)
+-- nothing more is wanted
+pub ends : {A : Type 0} (a : A) (b : List ℕ) → pure a b ≡ some (a, b)
+unfolding pure
+ends a b = refl
 
-pub read_refused : {A : Type 0} (s : List ℕ) (at : ℕ) → read_at {A = A} refuse s at ≡ none
-unfolding read_at refuse
-read_refused {A} s at = go (leb at (length s))
-  where
-    go : (b : Bool) → ◌≡◌ {A = Option (A × List ℕ)} (if b then none else none) none
-    go true = refl
-    go false = refl
+pub ruleset read_on = (goes_on, stops, ends)
 
--- nothing is found
-pub finds_none : {A : Type 0} (a : A) (m : Reader A) (s : List ℕ) (at next : ℕ) → length s < next → read_at m s at ≡ none → Reads s at m a next
-finds_none a m s at next h e = record { is = read_beyond (pure a) s next h ∙ sym e }
+-- ---- at a place that may be beyond the end, where nothing is read
+
+unfoldable pub read_at : {A : Type 0} → Reader A → List ℕ → ℕ → Option (A × List ℕ)
+read_at m s at = if leb at (length s) then m (drop at s) else none
+
+-- at the place `at` the reader finds a, and `next` is the place after it; or nothing, and `next` is beyond the end
+pub record Reads {A : Type 0} (s : List ℕ) (at : ℕ) (m : Reader A) (a : A) (next : ℕ) : Type 0 where
+  pub is : read_at (pure a) s next ≡ read_at m s at
 
 -- what follows is read at the place after
 module _ {A B : Type 0} (f : A → Reader B) where

@@ -1,7 +1,7 @@
 -- A set of slots gathered from its rising list: what is in the set so far is the front of the list.
 use Rattle.std.specs.Prelude.{if◌then◌else◌}
-use mathlib.Core.Path.{◌≡◌, refl, sym, ap, ap₂, ◌∙◌}
-use mathlib.Core.Bool.{Bool, true, false, ◌&&◌, ◌||◌, or-true, or-false, and-true}
+use mathlib.Core.Path.{◌≡◌, refl, sym, ap, ap₂, subst, ◌∙◌}
+use mathlib.Core.Bool.{Bool, true, false, ◌||◌, or-true, or-false, and-true}
 use mathlib.Core.List.{List, [], ◌∷◌, ◌++◌, append_assoc, append-nil}
 use mathlib.Core.Option.{Option, none, some}
 use Prim.Native.Nat.{ℕ, zero, suc, ◌+◌, ◌-◌, ◌*◌, ◌/◌, ◌%◌, ◌^◌, ◌≤◌, ◌<◌}
@@ -11,18 +11,17 @@ use native.Mathlib.Omega.{arith}
 use lib.Bits.{bit_or}
 use lib.Dec.{eqb, ltb, leb}
 use lib.ListN.{length, get_or, set, drop, length-set}
-use borrow.Author.Tests.{lt-ltb, le-ltb, le-leb, lt-leb, eq-eqb, ne_eqb, ltb-true, leb-true}
+use borrow.Author.Tests.{eq-eqb, ne_eqb, ltb-true, leb-true}
+use Rattle.std.specs.Prelude as P
 use Rattle.rules.specs.Basics.{keep, up_to}
 use Rattle.rules.specs.Constants.{slot_count}
-use Rattle.rules.specs.Reader.{Reader, and_then, pure, refuse, ◌>>=◌}
+use Rattle.rules.specs.Reader.{and_then, pure, refuse, ◌>>=◌}
 use Rattle.rules.proofs.Lists as rules-lists
 use Rattle.slots.specs.Set.{has, select, slots_of, word_count}
 use Rattle.slots.proofs.Selecting.{select_skip, select_split}
 use Rattle.slots.proofs.Words.{has_mark, bit_put}
-use Rattle.reading.specs.Narrow.{number32, slot_from, rising_slots}
-use Rattle.reading.specs.Places.{read_at, Reads}
-use Rattle.reading.specs.Views.{beyond}
-use Rattle.reading.proofs.Places.{read_refused, finds_none, then_at}
+use Rattle.reading.specs.Narrow.{number32, slot_from, rising_slots, set32}
+use Rattle.reading.proofs.Places.{goes_on, stops}
 
 -- ---- picks
 
@@ -51,6 +50,14 @@ select_all ws low l z =
     let none_left : select (has ws) low (slot_count - low) ≡ [] = select_skip (has ws) slot_count low slot_count l (omega arith) (λ s p q. z s p) in
     sym (split_at (has ws) low slot_count l ∙ rw (none_left, append-nil))
 
+-- the set with a slot put in
+abbrev pub marked : List ℕ → ℕ → List ℕ
+marked ws x = set ws (x / 64) (bit_or (get_or ws (x / 64) 0) ((1 * 2 ^ (x % 64)) % 2 ^ 64))
+
+has_marked : (ws : List ℕ) (x : ℕ) → x / 64 < length ws → (y : ℕ) → has (marked ws x) y ≡ (has ws y || eqb y x)
+has_marked ws x h y =
+    has_mark ws x _ true h (bit_put _ (x % 64) true (omega arith) refl) y ∙ ap (λ (b : Bool). has ws y || b) (and-true (eqb y x))
+
 -- ---- the differences
 
 abbrev Result : Type 0
@@ -60,117 +67,22 @@ unfoldable pub prefixed : List ℕ → Result → Result
 prefixed done none = none
 prefixed done (some r) = some (done ++ r.0, r.1)
 
-prefixed_nil : (o : Result) → prefixed [] o ≡ o
+prefixed_nil : (o : Result) → o ≡ prefixed [] o
 unfolding prefixed
 prefixed_nil none = refl
 prefixed_nil (some r) = refl
 
 -- a slot that is read goes to the front
-moved : (done : List ℕ) (x : ℕ) (m : Reader (List ℕ)) (s : List ℕ) (at : ℕ)
-    → prefixed done (read_at (m >>= λ l. pure (x ∷ l)) s at) ≡ prefixed (done ++ x ∷ []) (read_at m s at)
-unfolding read_at ◌>>=◌ prefixed and_then pure
-moved done x m s at = go (leb at (length s)) (m (drop at s))
-  where
-    one : (o : Result) → prefixed done (and_then o (λ l. pure (x ∷ l))) ≡ prefixed (done ++ x ∷ []) o
-    one none = refl
-    one (some r) = rw append_assoc
+moved : (done : List ℕ) (x : ℕ) (o : Result) → prefixed done (and_then o (λ l. pure (x ∷ l))) ≡ prefixed (done ++ x ∷ []) o
+unfolding prefixed and_then pure
+moved done x none = refl
+moved done x (some r) = rw append_assoc
 
-    go : (b : Bool) (o : Result) → prefixed done (if b then and_then o (λ l. pure (x ∷ l)) else none) ≡ prefixed (done ++ x ∷ []) (if b then o else none)
-    go true o = one o
-    go false o = refl
+-- ---- the test of a slot
 
-all_read : (done : List ℕ) (s : List ℕ) (at : ℕ) → prefixed done (read_at (pure []) s at) ≡ read_at (pure done) s at
-unfolding read_at prefixed pure
-all_read done s at = go (leb at (length s))
-  where
-    go : (b : Bool) → prefixed done (if b then some ([], drop at s) else none) ≡ (if b then some (done, drop at s) else none)
-    go true = ap (λ (l : List ℕ). some (l, drop at s)) (append-nil done)
-    go false = refl
-
--- the loop: the slots in the set are the front of the list, all below `low`; the rest is what the bytes from `next` on say
-pub record Rising (s : List ℕ) (at n : ℕ) (ws : List ℕ) (low from next left : ℕ) : Type 0 where
-  pub long : length ws ≡ word_count
-  pub reads : read_at (rising_slots n 0 0) s at ≡ prefixed (select (has ws) 0 low) (read_at (rising_slots left low from) s next)
-  pub above : (x : ℕ) → low ≤ x → has ws x ≡ false
-  pub low_slot : low ≤ slot_count
-  pub from_slot : from < slot_count
-
--- the set with a slot put in
-abbrev pub marked : List ℕ → ℕ → List ℕ
-marked ws x = set ws (x / 64) (bit_or (get_or ws (x / 64) 0) ((1 * 2 ^ (x % 64)) % 2 ^ 64))
-
-has_marked : (ws : List ℕ) (x : ℕ) → x / 64 < length ws → (y : ℕ) → has (marked ws x) y ≡ (has ws y || eqb y x)
-has_marked ws x h y =
-    has_mark ws x _ true h (bit_put _ (x % 64) true (omega arith) refl) y ∙ ap (λ (b : Bool). has ws y || b) (and-true (eqb y x))
-
-pub rising_start : (s : List ℕ) (at n : ℕ) (ws : List ℕ) → length ws ≡ word_count → ((x : ℕ) → has ws x ≡ false) → Rising s at n ws 0 0 at n
-unfolding keep up_to
-rising_start s at n ws e z = record {
-  long = e;
-  reads = sym (prefixed_nil (read_at (rising_slots n 0 0) s at));
-  above = λ x p. z x;
-  low_slot = omega arith;
-  from_slot = omega arith;
-}
-
-module _ {s : List ℕ} {at n : ℕ} {ws : List ℕ} {low from next left d after : ℕ} (r : Rising s at n ws low from next left) (h : 0 < left)
-    (e : Reads s next number32 d after) where
-  goes : read_at (rising_slots left low from) s next
-      ≡ read_at (if slot_from low (from + d) then (rising_slots (left - 1) (suc (from + d)) (from + d) >>= λ l. pure ((from + d) ∷ l)) else refuse) s after
-  unfolding rising_slots
-  goes =
-      let k : left ≡ suc (left - 1) = omega arith in
-      ap (λ (m : ℕ). read_at (rising_slots m low from) s next) k ∙ then_at _ e
-
-  pub rising_bad : slot_from low (from + d) ≡ false → length s < beyond → Reads s at (rising_slots n 0 0) (slots_of ws) beyond
-  unfolding prefixed
-  rising_bad f far =
-      let z : read_at (rising_slots left low from) s next ≡ none = goes ∙ rw f (read_refused s after) in
-      finds_none (slots_of ws) (rising_slots n 0 0) s at beyond far (r.reads ∙ ap (prefixed (select (has ws) 0 low)) z)
-
-  pub rising_more : slot_from low (from + d) ≡ true → low ≤ from + d → from + d < slot_count
-      → Rising s at n (marked ws (from + d)) (from + d + 1) (from + d) after (left - 1)
-  rising_more f l u =
-      let x = from + d in
-      let w = marked ws x in
-      let marks = has_marked ws x (omega (arith, r.long)) in
-      record {
-        long = simp length-set r.long;
-        reads =
-            r.reads ∙ ap (prefixed (select (has ws) 0 low)) (goes ∙ rw f)
-            ∙ moved (select (has ws) 0 low) x (rising_slots (left - 1) (suc x) x) s after
-            ∙ ap₂ (λ (l : List ℕ) (m : ℕ). prefixed l (read_at (rising_slots (left - 1) m x) s after))
-            (sym (select_more (has ws) (has w) low x l r.above marks)) (sym (add-one x));
-        above = λ y p. marks y ∙ ap₂ ◌||◌ (r.above y (omega arith)) (ne_eqb y x (λ (q : y ≡ x). omega arith));
-        low_slot = omega arith;
-        from_slot = u;
-      }
-
-pub rising_ends : {s : List ℕ} {at n : ℕ} {ws : List ℕ} {low from next left : ℕ} → Rising s at n ws low from next left → left ≡ 0
-    → Reads s at (rising_slots n 0 0) (slots_of ws) next
-unfolding rising_slots
-rising_ends {s} {at} {n} {ws} {low} {from} {next} {left} r e = record {
-  is =
-      ap (λ (l : List ℕ). read_at (pure l) s next) (sym (select_all ws low r.low_slot r.above))
-      ∙ sym (r.reads ∙ ap (λ (m : ℕ). prefixed (select (has ws) 0 low) (read_at (rising_slots m low from) s next)) e
-      ∙ all_read (select (has ws) 0 low) s next);
-}
-
--- ---- the tests of a slot
-
-module _ (low x : ℕ) where
-  either_way : (b : Bool) → (if b && false then x else slot_count) ≡ slot_count
-  either_way true = refl
-  either_way false = refl
-
-  pub slot_beyond : slot_count ≤ x → slot_count ≡ (if slot_from low x then x else slot_count)
-  slot_beyond h = rw (le-ltb x slot_count h) (sym (either_way (leb low x)))
-
-  pub slot_below : x < low → slot_count ≡ (if slot_from low x then x else slot_count)
-  slot_below h = rw (lt-leb low x h)
-
-  pub slot_right : low ≤ x → x < slot_count → x ≡ (if slot_from low x then x else slot_count)
-  slot_right h l = rw (le-leb low x h, lt-ltb x slot_count l)
+pub slot_wrong : (b : Bool) (x : ℕ) → P.None ≡ (if b then P.Some x else P.None) → b ≡ false
+slot_wrong true x e = cc
+slot_wrong false x e = refl
 
 pub record Right (low x slot : ℕ) : Type 0 where
   pub passes : slot_from low x ≡ true
@@ -178,22 +90,91 @@ pub record Right (low x slot : ℕ) : Type 0 where
   pub above : low ≤ x
   pub below : x < slot_count
 
-module _ (low x slot : ℕ) (e : slot ≡ (if slot_from low x then x else slot_count)) where
-  pub slot_wrong : slot ≡ slot_count → slot_from low x ≡ false
-  slot_wrong z = pick (slot_from low x) refl
-    where
-      pick : (b : Bool) → slot_from low x ≡ b → slot_from low x ≡ false
-      pick true p =
-          let h = rules-lists.and_true (leb low x) (ltb x slot_count) p in
-          let k : slot ≡ x = e ∙ ap (λ (b : Bool). if b then x else slot_count) p in
-          absurd (omega (arith, ltb-true x slot_count h.1))
-      pick false p = p
+pub slot_good : (low x slot : ℕ) → P.Some slot ≡ (if slot_from low x then P.Some x else P.None) → Right low x slot
+slot_good low x slot e = pick (slot_from low x) refl e
+  where
+    pick : (b : Bool) → slot_from low x ≡ b → P.Some slot ≡ (if b then P.Some x else P.None) → Right low x slot
+    pick true p e =
+        let h = rules-lists.and_true (leb low x) (ltb x slot_count) p in
+        record { passes = p; is = cc; above = leb-true low x h.0; below = ltb-true x slot_count h.1 }
+    pick false p e = cc
 
-  pub slot_good : (slot ≡ slot_count → ⊥) → Right low x slot
-  slot_good z = pick (slot_from low x) refl
-    where
-      pick : (b : Bool) → slot_from low x ≡ b → Right low x slot
-      pick true p =
-          let h = rules-lists.and_true (leb low x) (ltb x slot_count) p in
-          record { passes = p; is = e ∙ ap (λ (b : Bool). if b then x else slot_count) p; above = leb-true low x h.0; below = ltb-true x slot_count h.1 }
-      pick false p = absurd (z (e ∙ ap (λ (b : Bool). if b then x else slot_count) p))
+-- ---- the loop
+
+-- of the slots of the set at the place `first` those read so far are the front, all below `low`; the bytes from `at` on say the `left` others
+pub record Rising (s : List ℕ) (first : ℕ) (ws : List ℕ) (low from at left : ℕ) : Type 0 where
+  pub reads : set32 (drop first s) ≡ prefixed (select (has ws) 0 low) (rising_slots left low from (drop at s))
+  pub long : length ws ≡ word_count
+  pub above : (x : ℕ) → low ≤ x → has ws x ≡ false
+  pub low_slot : low ≤ slot_count
+  pub ahead : first < at
+  pub within : at ≤ length s
+
+pub rising_start : {s : List ℕ} {first n at : ℕ} (ws : List ℕ) → number32 (drop first s) ≡ some (n, drop at s) → first < at → at ≤ length s
+    → length ws ≡ word_count → ((x : ℕ) → has ws x ≡ false) → Rising s first ws 0 0 at n
+unfolding set32 keep up_to
+rising_start {s} {first} {n} {at} ws r a w e z = record {
+  reads = goes_on _ _ r ∙ prefixed_nil (rising_slots n 0 0 (drop at s));
+  long = e;
+  above = λ x p. z x;
+  low_slot = omega arith;
+  ahead = a;
+  within = w;
+}
+
+-- the number of the slots is missing
+pub rising_none : (s : List ℕ) (first : ℕ) → number32 (drop first s) ≡ none → set32 (drop first s) ≡ none
+unfolding set32
+rising_none s first e = stops _ _ e
+
+module _ {s : List ℕ} {first : ℕ} {ws : List ℕ} {low from at left : ℕ} (r : Rising s first ws low from at left) where
+  -- what the bytes from `at` on say
+  by : {o : Result} → rising_slots left low from (drop at s) ≡ o → set32 (drop first s) ≡ prefixed (select (has ws) 0 low) o
+  by e = r.reads ∙ ap (prefixed (select (has ws) 0 low)) e
+
+  -- a difference is missing
+  pub rising_cut : 0 < left → number32 (drop at s) ≡ none → set32 (drop first s) ≡ none
+  unfolding prefixed rising_slots
+  rising_cut h e =
+      let k : left ≡ suc (left - 1) = omega arith in
+      by (ap (λ (n : ℕ). rising_slots n low from (drop at s)) k ∙ stops _ _ e)
+
+  module _ (d next less : ℕ) (k : left ≡ suc less) (e : number32 (drop at s) ≡ some (d, drop next s)) where
+    goes : rising_slots left low from (drop at s)
+        ≡ (if slot_from low (from + d) then (rising_slots less (suc (from + d)) (from + d) >>= λ l. pure ((from + d) ∷ l)) else refuse) (drop next s)
+    unfolding rising_slots
+    goes = ap (λ (n : ℕ). rising_slots n low from (drop at s)) k ∙ goes_on _ _ e
+
+    pub rising_more : (slot : ℕ) → P.Some slot ≡ (if slot_from low (from + d) then P.Some (from + d) else P.None) → at < next → next ≤ length s
+        → Rising s first (marked ws slot) (slot + 1) slot next less
+    unfolding ◌>>=◌
+    rising_more slot f a w =
+        let x = from + d in
+        let good = slot_good low x slot f in
+        let marks = has_marked ws x (omega (arith, r.long, good.below)) in
+        subst (λ (y : ℕ). Rising s first (marked ws y) (y + 1) y next less) (sym good.is) (record {
+          reads =
+              by (goes ∙ rw good.passes) ∙ moved (select (has ws) 0 low) x (rising_slots less (suc x) x (drop next s))
+              ∙ ap₂ (λ (l : List ℕ) (n : ℕ). prefixed l (rising_slots less n x (drop next s)))
+              (sym (select_more (has ws) (has (marked ws x)) low x good.above r.above marks)) (sym (add-one x));
+          long = simp length-set r.long;
+          above = λ y p. marks y ∙ ap₂ ◌||◌ (r.above y (omega (arith, good.above))) (ne_eqb y x (λ (q : y ≡ x). omega arith));
+          low_slot = omega (arith, good.below);
+          ahead = omega (arith, r.ahead);
+          within = w;
+        })
+
+  -- a slot is none, or below the one before
+  pub rising_bad : (d next : ℕ) → 0 < left → number32 (drop at s) ≡ some (d, drop next s)
+      → P.None ≡ (if slot_from low (from + d) then P.Some (from + d) else P.None) → set32 (drop first s) ≡ none
+  unfolding prefixed refuse
+  rising_bad d next h e f = by {o = none} (goes d next (left - 1) (omega arith) e ∙ rw (slot_wrong _ _ f))
+
+  pub rising_ends : left ≡ 0 → set32 (drop first s) ≡ some (slots_of ws, drop at s)
+  unfolding rising_slots prefixed pure
+  rising_ends e =
+      by (ap (λ (n : ℕ). rising_slots n low from (drop at s)) e)
+      ∙ ap (λ (l : List ℕ). some (l, drop at s)) (append-nil (select (has ws) 0 low) ∙ select_all ws low r.low_slot r.above)
+
+-- what the steps of the loop come to
+pub ruleset by_slots = (rising_start, rising_none, rising_cut, rising_bad, rising_more, rising_ends)

@@ -1,27 +1,20 @@
 -- A batch read record by record: each record takes at least a byte, so that there is fuel for all, and what is left after the first is read as a batch.
 use Rattle.std.specs.Prelude.{if◌then◌else◌}
-use mathlib.Core.Path.{◌≡◌, refl, sym, ap, subst, ◌∙◌}
-use mathlib.Core.Bool.{Bool, true, false, true≢false, false≢true}
+use mathlib.Core.Path.{◌≡◌, refl, ap, ◌∙◌}
+use mathlib.Core.Bool.{Bool, true, false}
 use mathlib.Core.List.{List, [], ◌∷◌}
 use mathlib.Core.Option.{Option, none, some}
 use Prim.Native.Nat.{ℕ, zero, suc, ◌+◌, ◌-◌, ◌≤◌, ◌<◌}
 use native.Mathlib.Omega.{arith}
 use lib.Dec.{eqb, ltb}
-use lib.ListN.{length, drop, length-drop, drop_of_length-le}
+use lib.ListN.{length, drop, drop_of_length-le}
 use lib.Seq.{drop-cons}
-use Rattle.rules.specs.Basics.{all, case_of, given}
+use Rattle.rules.specs.Basics.{all, case_of}
 use Rattle.rules.specs.Constants.{id_length}
 use Rattle.rules.specs.Records.{Record, fits}
 use Rattle.rules.specs.Refusals.{is_slot_set}
 use Rattle.rules.specs.Reader.{Reader, and_then, pure, refuse, byte, ◌>>=◌, more_groups, read_number, read_bytes, read_differences, read_set, read_topic, read_present, read_member, read_target, read_current, read_kind, read_record, joined, and_more, read_records, read_all}
 use Rattle.reading.specs.Fitting.{passing, read_fitting, read_fitting_all}
-use Rattle.reading.specs.Places.{read_at}
-use Rattle.reading.specs.Narrow.{record32}
-use Rattle.reading.specs.Views.{ReadsAs, ReadsRecord, record_as, view_record, told}
-use Rattle.reading.specs.declared.Kind.{Kind}
-use Rattle.reading.specs.declared.RecordRead.{RecordRead}
-use Rattle.reading.proofs.Places.{read_within, read_beyond, read_place}
-use Rattle.reading.proofs.Narrowing.{record_narrow}
 
 -- ---- what a reader leaves
 
@@ -112,18 +105,6 @@ unfolding read_record byte ◌>>=◌ and_then
 record_leaves n [] l = tt
 record_leaves n (k ∷ b) l = kind_shortens k n b (omega arith)
 
-fitting_leaves : (n : ℕ) (b : List ℕ) → length b ≤ suc n → Leaves n (read_fitting b)
-unfolding read_fitting ◌>>=◌ passing
-fitting_leaves n b l =
-    then_leaves n (read_record b) _ (record_leaves n b l) (λ r. if_shortens (fits r) (pure r) refuse (pure_shortens r) (refuse_shortens _))
-
-fitting_shorter : (b rest : List ℕ) (r : Record) → some (r, rest) ≡ read_fitting b → length rest < length b
-unfolding read_fitting read_record byte ◌>>=◌ and_then
-fitting_shorter [] rest r e = absurd (true≢false (ap given e))
-fitting_shorter (x ∷ b) rest r e =
-    let l : length rest ≤ length b = subst (Leaves (length b)) (sym e) (fitting_leaves (length b) (x ∷ b) (omega arith)) in
-    omega arith
-
 -- ---- all the records of a batch
 
 more_same : (n : ℕ) (o : Option (Record × List ℕ)) (f g : List ℕ → Option (List Record)) → Leaves n o → ((b : List ℕ) → length b ≤ n → f b ≡ g b)
@@ -198,52 +179,13 @@ walk_ends s at h = ap read_fitting_all (drop_of_length-le s h) ∙ fitting_none
 walk_more : (s : List ℕ) (at : ℕ) → at < length s → read_fitting_all (drop at s) ≡ and_more (read_fitting (drop at s)) read_fitting_all
 walk_more s at h = rw (drop-cons s at 0 h) (fitting_more _ _)
 
--- the place after a record is further on
-further : (s : List ℕ) (at next : ℕ) (o : Option Record) → told o (drop next s) ≡ read_fitting (drop at s) → given o ≡ true → at < next
-unfolding pure
-further s at next none e g = absurd (false≢true g)
-further s at next (some x) e g =
-    let l : length (drop next s) < length (drop at s) = fitting_shorter (drop at s) (drop next s) x e in
-    let m : length s - next < length s - at = rw (← (length-drop next s), ← (length-drop at s)) l in
-    omega arith
-
--- what is found by the readers for 32 bits is what is read at the place
-record_empty : record32 [] ≡ none
-unfolding record32 byte ◌>>=◌ and_then
-record_empty = refl
-
-module _ (s : List ℕ) (at : ℕ) (r : RecordRead) (h : ReadsAs s at record32 r) where
-  at_place : read_at (told (view_record r)) s r.next ≡ read_fitting (drop at s)
-  at_place = h ∙ read_place record32 s at record_empty ∙ sym (record_narrow (drop at s))
-
-  pub record_found : r.next ≤ length s → ReadsRecord s at r
-  record_found l =
-      let e = sym (read_within (told (view_record r)) s r.next l) ∙ at_place in
-      record { is = e; within = l; ahead = further s at r.next (view_record r) e }
-
-  pub record_missing : length s < r.next → (q : RecordRead) → view_record q ≡ none → q.next ≤ length s → ReadsRecord s at q
-  unfolding refuse
-  record_missing far q e l = record {
-    is = ap (λ (o : Option Record). told o (drop q.next s)) e ∙ sym (read_beyond (told (view_record r)) s r.next far) ∙ at_place;
-    within = l;
-    ahead = λ g. absurd (false≢true (sym (ap given e) ∙ g));
-  }
-
--- what is read, by its kind
-pub view_kind_lem : (r : RecordRead) (k : Kind) → r.kind ≡ k → view_record r ≡ record_as k r.id r.slots.words r.revoking.words
-view_kind_lem r k e = ap (λ (x : Kind). record_as x r.id r.slots.words r.revoking.words) e
-
 -- the record at a place is the first of those from there on, and the others stand from the place after it on
-module _ {s : List ℕ} {at : ℕ} {r : RecordRead} (h : ReadsRecord s at r) where
-  pub walk_goes : (x : Record) → view_record r ≡ some x → read_fitting_all (drop at s) ≡ joined x (read_fitting_all (drop r.next s))
-  unfolding and_more pure
-  walk_goes x e =
-      let ahead : at < r.next = h.ahead (ap given e) in
-      let first : read_fitting (drop at s) ≡ some (x, drop r.next s) = sym h.is ∙ ap (λ (o : Option Record). told o (drop r.next s)) e in
-      walk_more s at (omega (arith, h.within)) ∙ ap (λ (o : Option (Record × List ℕ)). and_more o read_fitting_all) first
+module _ (s : List ℕ) (at : ℕ) where
+  pub walk_goes : (x : Record) (next : ℕ) → at < length s → read_fitting (drop at s) ≡ some (x, drop next s)
+      → read_fitting_all (drop at s) ≡ joined x (read_fitting_all (drop next s))
+  unfolding and_more
+  walk_goes x next l e = walk_more s at l ∙ ap (λ (o : Option (Record × List ℕ)). and_more o read_fitting_all) e
 
-  pub walk_stops : at < length s → view_record r ≡ none → read_fitting_all (drop at s) ≡ none
-  unfolding and_more refuse
-  walk_stops l e =
-      let first : read_fitting (drop at s) ≡ none = sym h.is ∙ ap (λ (o : Option Record). told o (drop r.next s)) e in
-      walk_more s at l ∙ ap (λ (o : Option (Record × List ℕ)). and_more o read_fitting_all) first
+  pub walk_stops : at < length s → read_fitting (drop at s) ≡ none → read_fitting_all (drop at s) ≡ none
+  unfolding and_more
+  walk_stops l e = walk_more s at l ∙ ap (λ (o : Option (Record × List ℕ)). and_more o read_fitting_all) e

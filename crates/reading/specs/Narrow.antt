@@ -25,35 +25,35 @@ rising_slots (suc n) low from =
 unfoldable pub set32 : Reader (List ℕ)
 set32 = number32 >>= λ n. rising_slots n 0 0
 
-unfoldable pub epoch32 : Reader Record
+abbrev pub epoch32 : Reader Record
 epoch32 = number32 >>= λ n. pure (group_epoch n)
 
-unfoldable pub topic32 : Reader Record
+abbrev pub topic32 : Reader Record
 topic32 = number32 >>= λ t. read_bytes id_length >>= λ id. number32 >>= λ n. pure (topic_is (record { number = t; id = id; count = n }))
 
-unfoldable pub present32 : ℕ → Reader Record
+abbrev pub present32 : ℕ → Reader Record
 present32 p =
     read_bytes id_length >>= λ id. number32 >>= λ timeout. number32 >>= λ subscription.
     pure (member_is (record { place = p; id = id; timeout = timeout; subscription = subscription }))
 
-unfoldable pub member32 : Reader Record
+abbrev pub member32 : Reader Record
 member32 =
     number32 >>= λ p. byte >>= λ k.
     if eqb k 0 then pure (member_gone p) else (if eqb k 1 then present32 p else refuse)
 
-unfoldable pub target_epoch32 : Reader Record
+abbrev pub target_epoch32 : Reader Record
 target_epoch32 = number32 >>= λ n. pure (target_epoch n)
 
-unfoldable pub target32 : Reader Record
+abbrev pub target32 : Reader Record
 target32 = number32 >>= λ p. set32 >>= λ s. pure (target_is (record { place = p; slots = s }))
 
-unfoldable pub sets32 : ℕ → ℕ → Reader Record
+abbrev pub sets32 : ℕ → ℕ → Reader Record
 sets32 p e = set32 >>= λ a. set32 >>= λ q. pure (current_is (record { place = p; epoch = e; assigned = a; revoking = q }))
 
-unfoldable pub current32 : Reader Record
+abbrev pub current32 : Reader Record
 current32 = number32 >>= λ p. number32 >>= λ e. if eqb e 0 then pure (current_gone p) else sets32 p e
 
-unfoldable pub kind32 : ℕ → Reader Record
+abbrev pub kind32 : ℕ → Reader Record
 kind32 k =
     if eqb k 3 then epoch32
     else (if eqb k 4 then topic32
@@ -62,5 +62,5 @@ kind32 k =
     else (if eqb k 7 then target32
     else (if eqb k 8 then current32 else refuse)))))
 
-unfoldable pub record32 : Reader Record
+abbrev pub record32 : Reader Record
 record32 = byte >>= kind32

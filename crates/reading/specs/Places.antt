@@ -1,12 +1,9 @@
 -- Reading at a place of the bytes.
-use Rattle.std.specs.Prelude.{ℕ, ◌≡◌, List, length, drop, leb, if◌then◌else◌}
-use Rattle.std.proofs.Math.Option.{Option, none}
-use Rattle.rules.specs.Reader.{Reader, pure}
+use Rattle.std.specs.Prelude.{ℕ, ◌≤◌, ◌<◌, ◌≡◌, List, length, drop, Option, None, Some}
+use Rattle.std.proofs.Math.Option.{none, some}
+use Rattle.rules.specs.Reader.{Reader}
 
--- what is read from the place `at` on; beyond the end nothing is
-unfoldable pub read_at : {A : Type 0} → Reader A → List ℕ → ℕ → Option (A × List ℕ)
-read_at m s at = if leb at (length s) then m (drop at s) else none
-
--- at the place `at` the reader finds a, and `next` is the place after it; or nothing, and `next` is beyond the end
-pub record Reads {A : Type 0} (s : List ℕ) (at : ℕ) (m : Reader A) (a : A) (next : ℕ) : Type 0 where
-  pub is : read_at (pure a) s next ≡ read_at m s at
+-- at the place `at` the reader finds nothing, or what r is, with the place after it, which is of the bytes or their end and further on
+abbrev pub Finds : {A B : Type 0} → Reader A → (B → A) → List ℕ → ℕ → Option (B × ℕ) → Type 0
+Finds m view s at None = m (drop at s) ≡ none
+Finds m view s at (Some r) = (m (drop at s) ≡ some (view r.0, drop r.1 s)) × (at < r.1) × (r.1 ≤ length s)

@@ -1,153 +1,115 @@
-// A record of each kind, read at the place after its kind.
-ghost use Rattle.std.specs.Prelude.{◌≡◌};
-ghost use Rattle.reading.specs.Narrow.{epoch32, topic32, present32, member32, target_epoch32, target32, sets32, current32, kind32, record32};
-ghost use Rattle.reading.specs.Views.{ReadsAs};
+// A record: the byte of its kind, and what follows by the kind. The laws `read_on` say what the fields of a record, one after another, make of it.
+#![tactic(auto, using(crate::proofs::Places::read_on))]
 
-use crate::{Kind, RecordRead, fields};
-use rules::{ID_LENGTH, Id};
-use slots::SlotSet;
+ghost use Rattle.reading.specs.Narrow.{epoch32, topic32, present32, member32, target_epoch32, target32, sets32, current32, record32};
+ghost use Rattle.reading.specs.Places.{Finds};
+ghost use Rattle.reading.specs.Views.{view_record};
 
-// A record with neither ID nor sets.
-fn plain(kind: Kind, next: usize) -> RecordRead
-    ensures { (result.kind ≡ kind) × (result.next ≡ next) }
+use crate::{Current, Member, Record, Target, Topic, fields};
+
+// The record at the place `at`: its kind and what follows.
+pub fn record(s: &[u8], at: usize) -> Option<(Record, usize)>
+    ensures { Finds record32 view_record s.now at result }
 {
-    named(kind, [0u8; ID_LENGTH], next)
-}
-
-// A record with an ID.
-fn named(kind: Kind, id: Id, next: usize) -> RecordRead
-    ensures { (result.kind ≡ kind) × (result.id ≡ id) × (result.next ≡ next) }
-{
-    RecordRead {
-        kind: kind,
-        id: id,
-        slots: SlotSet::empty(),
-        revoking: SlotSet::empty(),
-        next: next,
-    }
-}
-
-// 3: G.
-fn group_epoch(s: &[u8], at: usize) -> RecordRead
-    ensures { ReadsAs s.now at epoch32 result }
-{
-    let n = fields::number(s, at);
-    plain(Kind::GroupEpoch(n.value), n.next)
-}
-
-// 4: topic, ID, count.
-fn topic(s: &[u8], at: usize) -> RecordRead
-    ensures { ReadsAs s.now at topic32 result }
-{
-    let t = fields::number(s, at);
-    let id = fields::id(s, t.next);
-    let n = fields::number(s, id.next);
-    let bytes = id.bytes;
-    named(Kind::TopicIs(t.value, n.value), bytes, n.next)
-}
-
-// 5, after the place and a 1: ID, timeout, subscription.
-fn present(s: &[u8], at: usize, p: u32) -> RecordRead
-    ensures { ReadsAs s.now at (present32 p) result }
-{
-    let id = fields::id(s, at);
-    let timeout = fields::number(s, id.next);
-    let subscription = fields::number(s, timeout.next);
-    let bytes = id.bytes;
-    named(
-        Kind::MemberIs(p, timeout.value, subscription.value),
-        bytes,
-        subscription.next,
-    )
-}
-
-// 5: place, and 1 with what follows, or 0 for gone.
-fn member(s: &[u8], at: usize) -> RecordRead
-    ensures { ReadsAs s.now at member32 result }
-{
-    let p = fields::number(s, at);
-    let k = fields::byte(s, p.next);
-    if k.value == 0 {
-        return plain(Kind::MemberGone(p.value), k.next);
-    }
-    if k.value == 1 {
-        return present(s, k.next, p.value);
-    }
-    plain(Kind::NoRecord, 0)
-}
-
-// 6: T.
-fn target_epoch(s: &[u8], at: usize) -> RecordRead
-    ensures { ReadsAs s.now at target_epoch32 result }
-{
-    let n = fields::number(s, at);
-    plain(Kind::TargetEpoch(n.value), n.next)
-}
-
-// 7: place, set.
-fn target(s: &[u8], at: usize) -> RecordRead
-    ensures { ReadsAs s.now at target32 result }
-{
-    let p = fields::number(s, at);
-    let t = fields::set(s, p.next);
-    let slots = t.set;
-    RecordRead {
-        kind: Kind::TargetIs(p.value),
-        id: [0u8; ID_LENGTH],
-        slots: slots,
-        revoking: SlotSet::empty(),
-        next: t.next,
-    }
-}
-
-// 8, after place and E: set A, set P.
-fn sets(s: &[u8], at: usize, p: u32, e: u32) -> RecordRead
-    ensures { ReadsAs s.now at (sets32 p e) result }
-{
-    let a = fields::set(s, at);
-    let q = fields::set(s, a.next);
-    let slots = a.set;
-    let revoking = q.set;
-    RecordRead {
-        kind: Kind::CurrentIs(p, e),
-        id: [0u8; ID_LENGTH],
-        slots: slots,
-        revoking: revoking,
-        next: q.next,
-    }
-}
-
-// 8: place, E and the sets, or 0 for gone.
-fn current(s: &[u8], at: usize) -> RecordRead
-    ensures { ReadsAs s.now at current32 result }
-{
-    let p = fields::number(s, at);
-    let e = fields::number(s, p.next);
-    if e.value == 0 {
-        return plain(Kind::CurrentGone(p.value), e.next);
-    }
-    sets(s, e.next, p.value, e.value)
-}
-
-// The record of kind `k`.
-fn of_kind(s: &[u8], at: usize, k: u32) -> RecordRead
-    ensures { ReadsAs s.now at (kind32 k) result }
-{
-    match k {
+    let (kind, at) = fields::byte(s, at)?;
+    match kind {
         3 => group_epoch(s, at),
         4 => topic(s, at),
         5 => member(s, at),
         6 => target_epoch(s, at),
         7 => target(s, at),
         8 => current(s, at),
-        _ => plain(Kind::NoRecord, 0),
+        _ => None,
     }
 }
 
-// The record at the place `at`: its kind and what follows. Its `next` is beyond the end where there is none.
-pub fn record(s: &[u8], at: usize) -> RecordRead
-    ensures { ReadsAs s.now at record32 result }
+// 3: G.
+fn group_epoch(s: &[u8], at: usize) -> Option<(Record, usize)>
+    ensures { Finds epoch32 view_record s.now at result }
 {
-    let k = fields::byte(s, at);
-    of_kind(s, k.next, k.value)
+    let (n, at) = fields::number(s, at)?;
+    Some((Record::GroupEpoch(n), at))
+}
+
+// 4: topic, ID, count.
+fn topic(s: &[u8], at: usize) -> Option<(Record, usize)>
+    ensures { Finds topic32 view_record s.now at result }
+{
+    let (number, at) = fields::number(s, at)?;
+    let (id, at) = fields::id(s, at)?;
+    let (count, at) = fields::number(s, at)?;
+    Some((Record::Topic(Topic { number, id, count }), at))
+}
+
+// 5, after the place and a 1: ID, timeout, subscription.
+fn present(s: &[u8], at: usize, place: u32) -> Option<(Record, usize)>
+    ensures { Finds (present32 place) view_record s.now at result }
+{
+    let (id, at) = fields::id(s, at)?;
+    let (timeout, at) = fields::number(s, at)?;
+    let (subscription, at) = fields::number(s, at)?;
+    let member = Member {
+        place,
+        id,
+        timeout,
+        subscription,
+    };
+    Some((Record::Member(member), at))
+}
+
+// 5: place, and 1 with what follows, or 0 for gone.
+fn member(s: &[u8], at: usize) -> Option<(Record, usize)>
+    ensures { Finds member32 view_record s.now at result }
+{
+    let (place, at) = fields::number(s, at)?;
+    let (k, at) = fields::byte(s, at)?;
+    match k {
+        0 => Some((Record::MemberGone(place), at)),
+        1 => present(s, at, place),
+        _ => None,
+    }
+}
+
+// 6: T.
+fn target_epoch(s: &[u8], at: usize) -> Option<(Record, usize)>
+    ensures { Finds target_epoch32 view_record s.now at result }
+{
+    let (n, at) = fields::number(s, at)?;
+    Some((Record::TargetEpoch(n), at))
+}
+
+// 7: place, set.
+fn target(s: &[u8], at: usize) -> Option<(Record, usize)>
+    ensures { Finds target32 view_record s.now at result }
+{
+    let (place, at) = fields::number(s, at)?;
+    let (slots, at) = fields::set(s, at)?;
+    Some((Record::Target(Target { place, slots }), at))
+}
+
+// 8, after place and E: set A, set P.
+fn sets(s: &[u8], at: usize, place: u32, epoch: u32) -> Option<(Record, usize)>
+    ensures { Finds (sets32 place epoch) view_record s.now at result }
+{
+    let (assigned, at) = fields::set(s, at)?;
+    let (revoking, at) = fields::set(s, at)?;
+    let current = Current {
+        place,
+        epoch,
+        assigned,
+        revoking,
+    };
+    Some((Record::Current(current), at))
+}
+
+// 8: place, E and the sets, or 0 for gone.
+fn current(s: &[u8], at: usize) -> Option<(Record, usize)>
+    ensures { Finds current32 view_record s.now at result }
+{
+    let (place, at) = fields::number(s, at)?;
+    let (epoch, at) = fields::number(s, at)?;
+    if epoch == 0 {
+        return Some((Record::CurrentGone(place), at));
+    }
+    sets(s, at, place, epoch)
 }

@@ -4,57 +4,66 @@
 
 ghost use Rattle.reading.specs.Views.{ReadsRecord};
 
-use rules::{ID_LENGTH, Id};
+use rules::Id;
 use slots::SlotSet;
 
 mod fields; // fields.rt: a number, a byte, an ID, a set of slots
 mod kinds; // kinds.rt: a record of each kind
 
-// A record by its kind, with its numbers. Its ID and its sets of slots stand beside it in `RecordRead`.
+// 4: topic, ID, count.
 #[derive(Clone, Copy)]
-pub enum Kind {
+pub struct Topic {
+    pub number: u32,
+    pub id: Id,
+    pub count: u32,
+}
+
+// 5 of a member that is there: place, ID, timeout, subscription.
+#[derive(Clone, Copy)]
+pub struct Member {
+    pub place: u32,
+    pub id: Id,
+    pub timeout: u32,
+    pub subscription: u32,
+}
+
+// 7: place, and the slots of its target.
+#[derive(Clone, Copy)]
+pub struct Target {
+    pub place: u32,
+    pub slots: SlotSet,
+}
+
+// 8 of a member that is there: place, epoch, A and P.
+#[derive(Clone, Copy)]
+pub struct Current {
+    pub place: u32,
+    pub epoch: u32,
+    pub assigned: SlotSet,
+    pub revoking: SlotSet,
+}
+
+// A record of each kind.
+#[derive(Clone, Copy)]
+pub enum Record {
     // 3: the group epoch.
     GroupEpoch(u32),
-    // 4: topic and count; an ID.
-    TopicIs(u32, u32),
-    // 5: place, timeout and subscription; an ID.
-    MemberIs(u32, u32, u32),
+    Topic(Topic),
+    Member(Member),
     // 5 of a member that is gone: its place.
     MemberGone(u32),
     // 6: the target epoch.
     TargetEpoch(u32),
-    // 7: place; a set, its target.
-    TargetIs(u32),
-    // 8: place and epoch; two sets, A and P.
-    CurrentIs(u32, u32),
+    Target(Target),
+    Current(Current),
     // 8 of a member that is gone: its place.
     CurrentGone(u32),
-    NoRecord,
 }
 
-// A record, and the place after it: the ID of a topic or a member, the slots of a target or of A, those of P.
-#[derive(Clone, Copy)]
-pub struct RecordRead {
-    pub kind: Kind,
-    pub id: Id,
-    pub slots: SlotSet,
-    pub revoking: SlotSet,
-    pub next: usize,
-}
-
-// The record at the place `at`, or `NoRecord`.
-pub fn read_record(s: &[u8], at: usize) -> RecordRead
+// The record at the place `at`, and the place after it.
+#[tactic(auto, using(crate::proofs::Narrowing::record_narrow))]
+pub fn read_record(s: &[u8], at: usize) -> Option<(Record, usize)>
     ensures { ReadsRecord s.now at result }
 {
-    let r = kinds::record(s, at);
-    if s.len() < r.next {
-        return RecordRead {
-            kind: Kind::NoRecord,
-            id: [0u8; ID_LENGTH],
-            slots: SlotSet::empty(),
-            revoking: SlotSet::empty(),
-            next: 0,
-        };
-    }
-    r
+    kinds::record(s, at)
 }

@@ -1,16 +1,26 @@
--- The bytes of lists of records as parts, one after another: first of any lists (`all_cons`, `all_append`) and of a record that is there only if something
--- changed (`room_on`, `wrote_on`, `wrote_off`, `length_on`, `length_off`), then of each event's list.
+-- The bytes of lists of records: of any lists (`all_cons`, `all_append`), of a record that may be there (`optional_flat`), and of what each event stores, as its
+-- fields stand one after another.
+use Rattle.std.specs.Prelude.{Option, None, Some}
+use Rattle.std.specs.Bool.{then_some}
 use mathlib.Core.Path.{◌≡◌, refl, sym, ap, ◌∙◌}
-use mathlib.Core.Bool.{Bool, true, false, not, true≢false}
+use mathlib.Core.Bool.{Bool, true, false}
 use mathlib.Core.List.{List, [], ◌∷◌, ◌++◌, append-nil, append_assoc}
-use Prim.Native.Nat.{ℕ, ◌≤◌}
-use lib.ListN.{length}
+use Prim.Native.Nat.{ℕ}
 use Rattle.rules.specs.Basics.{concat_map}
-use Rattle.rules.specs.Records.{Record, MemberMetadata, TopicMetadata, CurrentAssignment, group_epoch, topic_is, member_is, member_gone, current_is, current_gone, bytes_of, all_bytes}
-use Rattle.rules.specs.Effects.{only_if, no_target, joined_at, topic_records, gone_records, leave_records, join_records, ordinary_records}
-use Rattle.rules.specs.Step.{overlay}
-use Rattle.numbers.specs.Buffer.{Wrote, flat}
-use Rattle.numbers.proofs.Writing.{lengths, flat_length}
+use Rattle.rules.specs.Records.{Record, group_epoch, topic_is, member_is, member_gone, target_is, current_is, current_gone, bytes_of, all_bytes}
+use Rattle.rules.specs.Effects.{only_if, no_target, joined_at, gone_records, join_records}
+use Rattle.records.specs.Storing.{optional, optional_bytes, topic_batch, gone_batch, leave_batch, join_batch, ordinary_batch}
+use Rattle.records.specs.Views.{view_topic_metadata, view_member_metadata, view_target, view_current}
+use Rattle.records.specs.declared.kinds.GroupEpoch.{GroupEpoch}
+use Rattle.records.specs.declared.kinds.TopicMetadata.{TopicMetadata}
+use Rattle.records.specs.declared.kinds.MemberMetadata.{MemberMetadata}
+use Rattle.records.specs.declared.kinds.TargetAssignment.{TargetAssignment}
+use Rattle.records.specs.declared.kinds.CurrentAssignment.{CurrentAssignment}
+use Rattle.records.specs.declared.batches.TopicBatch.{TopicBatch}
+use Rattle.records.specs.declared.batches.GoneBatch.{GoneBatch}
+use Rattle.records.specs.declared.batches.LeaveBatch.{LeaveBatch}
+use Rattle.records.specs.declared.batches.JoinBatch.{JoinBatch}
+use Rattle.records.specs.declared.batches.OrdinaryBatch.{OrdinaryBatch}
 
 -- ---- any lists
 
@@ -27,78 +37,57 @@ unfolding all_bytes
 all_append [] ss = refl
 all_append (r ∷ rs) ss = ap (λ (l : List ℕ). bytes_of r ++ l) (all_append rs ss) ∙ sym (append_assoc (bytes_of r) (concat_map bytes_of rs) (concat_map bytes_of ss))
 
--- ---- a record that is there only if it is on: what its writer requires and ensures, and its length
+-- ---- a record that may be there
 
-only_on : (r : Record) → all_bytes (only_if true r) ≡ bytes_of r
+abbrev pub bytes_if : {A : Type 0} → (A → Record) → Option A → List ℕ
+bytes_if kind = optional_bytes (λ a. bytes_of (kind a))
+
+pub optional_flat : {A : Type 0} (kind : A → Record) (o : Option A) → all_bytes (optional kind o) ≡ bytes_if kind o
+unfolding all_bytes
+optional_flat kind None = refl
+optional_flat kind (Some a) = append-nil (bytes_of (kind a))
+
+pub only_flat : {A : Type 0} (kind : A → Record) (b : Bool) (a : A) → all_bytes (only_if b (kind a)) ≡ bytes_if kind (then_some b a)
 unfolding all_bytes only_if
-only_on r = append-nil (bytes_of r)
+only_flat kind true a = append-nil (bytes_of (kind a))
+only_flat kind false a = refl
 
-only_off : (r : Record) → all_bytes (only_if false r) ≡ []
-unfolding all_bytes only_if
-only_off r = refl
+-- ---- what each event stores
 
-module _ (r : Record) {on : Bool} where
-  pub room_on : {n : ℕ} → on ≡ true → length (all_bytes (only_if on r)) ≤ n → length (bytes_of r) ≤ n
-  room_on e h = rw (e, only_on) at h
+abbrev three : GroupEpoch → Record
+three e = group_epoch e.0
 
-  pub wrote_on : {b b' : List ℕ} {n : ℕ} → on ≡ true → Wrote (bytes_of r) b b' n → Wrote (all_bytes (only_if on r)) b b' n
-  wrote_on e w = rw (e, only_on) w
+abbrev four : TopicMetadata → Record
+four t = topic_is (view_topic_metadata t)
 
-  pub wrote_off : {b : List ℕ} → on ≡ false → Wrote (all_bytes (only_if on r)) b b 0
-  unfolding overlay
-  wrote_off e = rw (e, only_off) (record { count = refl; bytes = refl })
+abbrev five : MemberMetadata → Record
+five m = member_is (view_member_metadata m)
 
--- a length function asks first whether it is off
-pub length_on : (r : Record) (on : Bool) {n : ℕ} → not on ≡ false → n ≡ length (bytes_of r) → n ≡ length (all_bytes (only_if on r))
-length_on r true e h = rw only_on h
-length_on r false e h = absurd (true≢false e)
+abbrev seven : TargetAssignment → Record
+seven t = target_is (view_target t)
 
-pub length_off : (r : Record) (on : Bool) → not on ≡ true → 0 ≡ length (all_bytes (only_if on r))
-length_off r true e = absurd (true≢false (sym e))
-length_off r false e = rw only_off refl
+abbrev eight : CurrentAssignment → Record
+eight c = current_is (view_current c)
 
--- ---- each event's list
+pub topic_flat : (b : TopicBatch) → bytes_if four b.topic ++ bytes_if three b.epoch ≡ all_bytes (topic_batch b)
+unfolding topic_batch
+topic_flat b = simp (all_append, optional_flat)
 
-pub parts_length : (us : List (List ℕ)) {w : List ℕ} → flat us ≡ w → length w ≡ lengths us
-parts_length us e = ap length (sym e) ∙ flat_length us
+-- t is a target that has become empty
+pub gone_flat : (b : GoneBatch) (t : TargetAssignment) → seven t ≡ no_target b.place.0
+    → bytes_of (current_gone b.place.0) ++ (bytes_if seven (then_some b.retargets t) ++ bytes_of (member_gone b.place.0)) ≡ all_bytes (gone_batch b)
+unfolding gone_batch gone_records
+gone_flat b t e = rw (← e, all_cons, all_append, only_flat seven b.retargets t, all_cons, all_none, append-nil)
 
-module _ (changes : Bool) (t : TopicMetadata) (raises : Bool) (e : ℕ) where
-  abbrev pub topic_parts : List (List ℕ)
-  topic_parts = all_bytes (only_if changes (topic_is t)) ∷ all_bytes (only_if raises (group_epoch e)) ∷ []
+pub leave_flat : (b : LeaveBatch) → all_bytes (gone_batch b.gone) ++ bytes_if three b.epoch ≡ all_bytes (leave_batch b)
+unfolding leave_batch
+leave_flat b = rw (all_append, optional_flat)
 
-  pub topic_parts_lem : flat topic_parts ≡ all_bytes (topic_records changes t raises e)
-  unfolding topic_records
-  topic_parts_lem = rw (all_append, append-nil)
+pub join_flat : (b : JoinBatch) (t : TargetAssignment) (c : CurrentAssignment) → seven t ≡ no_target b.member.place.0 → view_current c ≡ joined_at b.member.place.0 b.epoch
+    → bytes_if seven (then_some b.retargets t) ++ (bytes_of (five b.member) ++ (bytes_of (group_epoch b.epoch) ++ bytes_of (eight c))) ≡ all_bytes (join_batch b)
+unfolding join_batch join_records view_member_metadata
+join_flat b t c e f = rw (← e, ← f, all_append, only_flat seven b.retargets t, all_cons, all_cons, all_cons, all_none, append-nil)
 
-module _ (p : ℕ) (retargets : Bool) where
-  abbrev pub gone_parts : List (List ℕ)
-  gone_parts = bytes_of (current_gone p) ∷ all_bytes (only_if retargets (no_target p)) ∷ bytes_of (member_gone p) ∷ []
-
-  pub gone_parts_lem : flat gone_parts ≡ all_bytes (gone_records p retargets)
-  unfolding gone_records
-  gone_parts_lem = rw (all_cons, all_append, all_cons, all_none)
-
-module _ (p : ℕ) (retargets raises : Bool) (e : ℕ) where
-  abbrev pub leave_parts : List (List ℕ)
-  leave_parts = all_bytes (gone_records p retargets) ∷ all_bytes (only_if raises (group_epoch e)) ∷ []
-
-  pub leave_parts_lem : flat leave_parts ≡ all_bytes (leave_records p retargets raises e)
-  unfolding leave_records
-  leave_parts_lem = rw (all_append, append-nil)
-
-module _ (retargets : Bool) (m : MemberMetadata) (e : ℕ) where
-  abbrev pub join_parts : List (List ℕ)
-  join_parts =
-      all_bytes (only_if retargets (no_target m.place)) ∷ bytes_of (member_is m) ∷ bytes_of (group_epoch e) ∷ bytes_of (current_is (joined_at m.place e)) ∷ []
-
-  pub join_parts_lem : flat join_parts ≡ all_bytes (join_records retargets m e)
-  unfolding join_records
-  join_parts_lem = rw (all_append, all_cons, all_cons, all_cons, all_none)
-
-module _ (updates : Bool) (m : MemberMetadata) (raises : Bool) (e : ℕ) (moves : Bool) (c : CurrentAssignment) where
-  abbrev pub ordinary_parts : List (List ℕ)
-  ordinary_parts = all_bytes (only_if updates (member_is m)) ∷ all_bytes (only_if raises (group_epoch e)) ∷ all_bytes (only_if moves (current_is c)) ∷ []
-
-  pub ordinary_parts_lem : flat ordinary_parts ≡ all_bytes (ordinary_records updates m raises e moves c)
-  unfolding ordinary_records
-  ordinary_parts_lem = rw (all_append, all_append, append-nil)
+pub ordinary_flat : (b : OrdinaryBatch) → bytes_if five b.member ++ (bytes_if three b.epoch ++ bytes_if eight b.current) ≡ all_bytes (ordinary_batch b)
+unfolding ordinary_batch
+ordinary_flat b = simp (all_append, optional_flat)

@@ -1,16 +1,176 @@
-// What an event stores: its records in their order, each writer lent the part of the buffer that starts where the last record ended. A writer returns how many
-// bytes that took; its length function says it before anything is written.
-ghost use Rattle.std.specs.Prelude.{◌≡◌, ◌+◌, ◌*◌, ◌≤◌, length};
+// What an event stores: its records in their order, those that only some events have being options.
+ghost use Rattle.std.specs.Prelude.{◌≡◌, ◌+◌, ◌*◌};
 ghost use Rattle.rules.specs.Constants.{slot_count};
 ghost use Rattle.rules.specs.Records.{all_bytes, target_is};
-ghost use Rattle.rules.specs.Effects.{no_target, joined_at, topic_records, gone_records, leave_records, join_records, ordinary_records};
-ghost use Rattle.numbers.specs.Buffer.{Wrote};
-ghost use Rattle.records.specs.Views.{view_topic_metadata, view_member_metadata, view_target, view_current};
+ghost use Rattle.rules.specs.Effects.{no_target, joined_at};
+ghost use Rattle.records.specs.Storing.{topic_batch, gone_batch, leave_batch, join_batch, ordinary_batch};
+ghost use Rattle.records.specs.Views.{view_target, view_current};
 
-use crate::kinds::{CurrentAssignment, MemberMetadata, TargetAssignment, TopicMetadata};
-use crate::{kinds, optional};
+use crate::Encode;
+use crate::kinds::{
+    CurrentAssignment, CurrentGone, GroupEpoch, MemberGone, MemberMetadata, TargetAssignment,
+    TopicMetadata,
+};
+use crate::pairs::{Pair, then};
 use rules::Place;
 use slots::SlotSet;
+
+// Topic: record 4 if the topic changes, 3 if G rises.
+#[derive(Clone, Copy)]
+pub struct TopicBatch {
+    pub topic: Option<TopicMetadata>,
+    pub epoch: Option<GroupEpoch>,
+}
+
+// A member that goes: record 8 gone, 7 empty if its target was not, 5 gone.
+#[derive(Clone, Copy)]
+pub struct GoneBatch {
+    pub place: Place,
+    pub retargets: bool,
+}
+
+// Leave: a member that goes, and record 3 if G rises.
+#[derive(Clone, Copy)]
+pub struct LeaveBatch {
+    pub gone: GoneBatch,
+    pub epoch: Option<GroupEpoch>,
+}
+
+// Join: record 7 empty if a known member's target was not, 5, 3, 8.
+#[derive(Clone, Copy)]
+pub struct JoinBatch {
+    pub retargets: bool,
+    pub member: MemberMetadata,
+    pub epoch: u32,
+}
+
+// Ordinary heartbeat: record 5 if the member updates its subscription or timeout, 3 if G rises, 8 if E, A or P moves.
+#[derive(Clone, Copy)]
+pub struct OrdinaryBatch {
+    pub member: Option<MemberMetadata>,
+    pub epoch: Option<GroupEpoch>,
+    pub current: Option<CurrentAssignment>,
+}
+
+type TopicRecords = Pair<Option<TopicMetadata>, Option<GroupEpoch>>;
+
+fn topic_records(b: TopicBatch) -> TopicRecords
+    ensures { ⟦<TopicRecords as Encode>⟧.bytes result ≡ all_bytes (topic_batch b) }
+{
+    then(b.topic, b.epoch)
+}
+
+impl Encode for TopicBatch {
+    ghost bytes = { λ b. all_bytes (topic_batch b) };
+
+    ghost most = { 33 };
+
+    fn put(self, buf: &mut [u8]) -> usize {
+        topic_records(self).put(buf)
+    }
+
+    fn size(self) -> usize {
+        topic_records(self).size()
+    }
+}
+
+type GoneRecords = Pair<CurrentGone, Pair<Option<TargetAssignment>, MemberGone>>;
+
+fn gone_records(b: GoneBatch) -> GoneRecords
+    ensures { ⟦<GoneRecords as Encode>⟧.bytes result ≡ all_bytes (gone_batch b) }
+{
+    let target = b.retargets.then_some(no_target(b.place));
+    then(CurrentGone(b.place), then(target, MemberGone(b.place)))
+}
+
+impl Encode for GoneBatch {
+    ghost bytes = { λ b. all_bytes (gone_batch b) };
+
+    ghost most = { 2 * slot_count + 25 };
+
+    fn put(self, buf: &mut [u8]) -> usize {
+        gone_records(self).put(buf)
+    }
+
+    fn size(self) -> usize {
+        gone_records(self).size()
+    }
+}
+
+type LeaveRecords = Pair<GoneBatch, Option<GroupEpoch>>;
+
+fn leave_records(b: LeaveBatch) -> LeaveRecords
+    ensures { ⟦<LeaveRecords as Encode>⟧.bytes result ≡ all_bytes (leave_batch b) }
+{
+    then(b.gone, b.epoch)
+}
+
+impl Encode for LeaveBatch {
+    ghost bytes = { λ b. all_bytes (leave_batch b) };
+
+    ghost most = { 2 * slot_count + 31 };
+
+    fn put(self, buf: &mut [u8]) -> usize {
+        leave_records(self).put(buf)
+    }
+
+    fn size(self) -> usize {
+        leave_records(self).size()
+    }
+}
+
+type JoinRecords = Pair<
+    Option<TargetAssignment>,
+    Pair<MemberMetadata, Pair<GroupEpoch, CurrentAssignment>>,
+>;
+
+fn join_records(b: JoinBatch) -> JoinRecords
+    ensures { ⟦<JoinRecords as Encode>⟧.bytes result ≡ all_bytes (join_batch b) }
+{
+    let place = b.member.place;
+    let target = b.retargets.then_some(no_target(place));
+    let rest = then(GroupEpoch(b.epoch), joined(place, b.epoch));
+    then(target, then(b.member, rest))
+}
+
+impl Encode for JoinBatch {
+    ghost bytes = { λ b. all_bytes (join_batch b) };
+
+    ghost most = { 6 * slot_count + 71 };
+
+    fn put(self, buf: &mut [u8]) -> usize {
+        join_records(self).put(buf)
+    }
+
+    fn size(self) -> usize {
+        join_records(self).size()
+    }
+}
+
+type OrdinaryRecords = Pair<
+    Option<MemberMetadata>,
+    Pair<Option<GroupEpoch>, Option<CurrentAssignment>>,
+>;
+
+fn ordinary_records(b: OrdinaryBatch) -> OrdinaryRecords
+    ensures { ⟦<OrdinaryRecords as Encode>⟧.bytes result ≡ all_bytes (ordinary_batch b) }
+{
+    then(b.member, then(b.epoch, b.current))
+}
+
+impl Encode for OrdinaryBatch {
+    ghost bytes = { λ b. all_bytes (ordinary_batch b) };
+
+    ghost most = { 4 * slot_count + 60 };
+
+    fn put(self, buf: &mut [u8]) -> usize {
+        ordinary_records(self).put(buf)
+    }
+
+    fn size(self) -> usize {
+        ordinary_records(self).size()
+    }
+}
 
 // A target that has become empty.
 fn no_target(place: Place) -> TargetAssignment
@@ -33,120 +193,4 @@ fn joined(place: Place, epoch: u32) -> CurrentAssignment
         assigned: none,
         revoking: none,
     }
-}
-
-// Topic: record 4 if the topic changes, 3 if G rises.
-pub fn put_topic_records(
-    buf: &mut [u8],
-    changes: bool,
-    t: TopicMetadata,
-    raises: bool,
-    epoch: u32,
-) -> usize
-    requires { length (all_bytes (topic_records changes (view_topic_metadata t) raises epoch)) ≤ length buf.old }
-    ensures { Wrote (all_bytes (topic_records changes (view_topic_metadata t) raises epoch)) buf.old buf.new result }
-{
-    let at = optional::put_topic_if(buf, changes, t);
-    at + optional::put_group_epoch_if(&mut buf[at..], raises, epoch)
-}
-
-pub fn topic_records_len(changes: bool, t: TopicMetadata, raises: bool, epoch: u32) -> usize
-    ensures { (result ≡ length (all_bytes (topic_records changes (view_topic_metadata t) raises epoch))) × (result ≤ 33) }
-{
-    optional::topic_len_if(changes, t) + optional::group_epoch_len_if(raises, epoch)
-}
-
-// A member that goes: record 8 gone, 7 empty if its target was not, 5 gone.
-pub fn put_gone_records(buf: &mut [u8], place: Place, retargets: bool) -> usize
-    requires { length (all_bytes (gone_records place.0 retargets)) ≤ length buf.old }
-    ensures { Wrote (all_bytes (gone_records place.0 retargets)) buf.old buf.new result }
-{
-    let none = no_target(place);
-    let i = kinds::put_current_gone(buf, place);
-    let j = i + optional::put_target_if(&mut buf[i..], retargets, none);
-    j + kinds::put_member_gone(&mut buf[j..], place)
-}
-
-pub fn gone_records_len(place: Place, retargets: bool) -> usize
-    ensures { (result ≡ length (all_bytes (gone_records place.0 retargets))) × (result ≤ 2 * slot_count + 25) }
-{
-    let none = no_target(place);
-    let gone = kinds::gone_len(place);
-    gone + optional::target_len_if(retargets, none) + gone
-}
-
-// Leave: a member that goes, and record 3 if G rises.
-pub fn put_leave_records(
-    buf: &mut [u8],
-    place: Place,
-    retargets: bool,
-    raises: bool,
-    epoch: u32,
-) -> usize
-    requires { length (all_bytes (leave_records place.0 retargets raises epoch)) ≤ length buf.old }
-    ensures { Wrote (all_bytes (leave_records place.0 retargets raises epoch)) buf.old buf.new result }
-{
-    let at = put_gone_records(buf, place, retargets);
-    at + optional::put_group_epoch_if(&mut buf[at..], raises, epoch)
-}
-
-pub fn leave_records_len(place: Place, retargets: bool, raises: bool, epoch: u32) -> usize
-    ensures { (result ≡ length (all_bytes (leave_records place.0 retargets raises epoch))) × (result ≤ 2 * slot_count + 31) }
-{
-    gone_records_len(place, retargets) + optional::group_epoch_len_if(raises, epoch)
-}
-
-// Join: record 7 empty if a known member's target was not, 5, 3, 8.
-pub fn put_join_records(buf: &mut [u8], retargets: bool, m: MemberMetadata, epoch: u32) -> usize
-    requires { length (all_bytes (join_records retargets (view_member_metadata m) epoch)) ≤ length buf.old }
-    ensures { Wrote (all_bytes (join_records retargets (view_member_metadata m) epoch)) buf.old buf.new result }
-{
-    let none = no_target(m.place);
-    let current = joined(m.place, epoch);
-    let i = optional::put_target_if(buf, retargets, none);
-    let j = i + kinds::put_member(&mut buf[i..], m);
-    let k = j + kinds::put_group_epoch(&mut buf[j..], epoch);
-    k + kinds::put_current(&mut buf[k..], current)
-}
-
-pub fn join_records_len(retargets: bool, m: MemberMetadata, epoch: u32) -> usize
-    ensures { (result ≡ length (all_bytes (join_records retargets (view_member_metadata m) epoch))) × (result ≤ 6 * slot_count + 71) }
-{
-    let seven = optional::target_len_if(retargets, no_target(m.place));
-    let five = kinds::member_len(m);
-    let three = kinds::group_epoch_len(epoch);
-    seven + five + three + kinds::current_len(joined(m.place, epoch))
-}
-
-// Ordinary heartbeat: record 5 if the member updates its subscription or timeout, 3 if G rises, 8 if E, A or P moves.
-pub fn put_ordinary_records(
-    buf: &mut [u8],
-    updates: bool,
-    m: MemberMetadata,
-    raises: bool,
-    epoch: u32,
-    moves: bool,
-    c: CurrentAssignment,
-) -> usize
-    requires { length (all_bytes (ordinary_records updates (view_member_metadata m) raises epoch moves (view_current c))) ≤ length buf.old }
-    ensures { Wrote (all_bytes (ordinary_records updates (view_member_metadata m) raises epoch moves (view_current c))) buf.old buf.new result }
-{
-    let i = optional::put_member_if(buf, updates, m);
-    let j = i + optional::put_group_epoch_if(&mut buf[i..], raises, epoch);
-    j + optional::put_current_if(&mut buf[j..], moves, c)
-}
-
-pub fn ordinary_records_len(
-    updates: bool,
-    m: MemberMetadata,
-    raises: bool,
-    epoch: u32,
-    moves: bool,
-    c: CurrentAssignment,
-) -> usize
-    ensures { (result ≡ length (all_bytes (ordinary_records updates (view_member_metadata m) raises epoch moves (view_current c)))) × (result ≤ 4 * slot_count + 60) }
-{
-    let five = optional::member_len_if(updates, m);
-    let three = optional::group_epoch_len_if(raises, epoch);
-    five + three + optional::current_len_if(moves, c)
 }

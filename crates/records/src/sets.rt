@@ -3,24 +3,45 @@
 ghost use Rattle.std.specs.Prelude.{◌≡◌, ◌+◌, ◌*◌, ◌≤◌, length};
 ghost use Rattle.rules.specs.Constants.{slot_count};
 ghost use Rattle.rules.specs.Records.{differences, set_bytes};
-ghost use Rattle.numbers.specs.Buffer.{Wrote, WroteAt};
+ghost use Rattle.numbers.specs.Buffer.{Wrote};
 ghost use Rattle.slots.specs.Set.{slots_of, word_count};
 
-use rules::SLOT_END;
-use slots::{SlotSet, WORDS};
+use crate::{Encode, put_at};
+use slots::SlotSet;
+
+impl Encode for SlotSet {
+    ghost bytes = { λ set. set_bytes (slots_of set.words) };
+
+    ghost most = { 2 * slot_count + 5 };
+
+    #[tactic(auto, using(crate::proofs::Differences::counted_length))]
+    fn put(self, buf: &mut [u8]) -> usize {
+        if self.is_empty() {
+            return 0u32.put(buf);
+        }
+        let at = self.count().put(buf);
+        at + put_differences(&mut buf[at..], self)
+    }
+
+    fn size(self) -> usize {
+        if self.is_empty() {
+            return 1; // a size of 0 takes one byte
+        }
+        let count = self.count();
+        count.size() + count as usize + extra_len(self)
+    }
+}
 
 // Writes the lowest slot and then each difference at the start of `buf`, and returns how many bytes that took.
-pub fn put_differences(buf: &mut [u8], set: SlotSet) -> usize
+fn put_differences(buf: &mut [u8], set: SlotSet) -> usize
     requires { length (differences 0 (slots_of set.words)) ≤ length buf.old }
     ensures { Wrote (differences 0 (slots_of set.words)) buf.old buf.new result }
 {
     let mut at: usize = 0;
     let mut last: u16 = 0;
-    let mut s = set.first();
-    while s.slot < SLOT_END {
-        at = numbers::put_number_at(buf, at, (s.slot - last) as u32);
-        last = s.slot;
-        s = set.after(s);
+    for slot in set.slots() {
+        at = put_at(buf, at, (slot - last) as u32);
+        last = slot;
     }
     at
 }
@@ -32,47 +53,13 @@ fn extra_len(set: SlotSet) -> usize
 {
     let mut extra: usize = 0;
     let mut last: u32 = 0;
-    let mut i: usize = 0;
-    while i < WORDS {
-        let word = set.words[i];
-        let start = (i * 64) as u32;
-        i += 1;
+    for (i, &word) in set.words.iter().enumerate() {
         if word != 0 {
-            let first = start + u64::trailing_zeros(word);
-            extra += numbers::number_len(first - last) - 1;
-            last = start + (63 - u64::leading_zeros(word));
+            let start = (i * 64) as u32;
+            let first = start + word.trailing_zeros();
+            extra += (first - last).size() - 1;
+            last = start + (63 - word.leading_zeros());
         }
     }
     extra
-}
-
-// Writes the set at the start of `buf` and returns how many bytes that took.
-pub fn put_set(buf: &mut [u8], set: SlotSet) -> usize
-    requires { length (set_bytes (slots_of set.words)) ≤ length buf.old }
-    ensures { Wrote (set_bytes (slots_of set.words)) buf.old buf.new result }
-{
-    if set.is_empty() {
-        return numbers::put_number(buf, 0);
-    }
-    let at = numbers::put_number(buf, set.count());
-    at + put_differences(&mut buf[at..], set)
-}
-
-// Writes the set at the place `at` and returns the place after it.
-pub fn put_set_at(buf: &mut [u8], at: usize, set: SlotSet) -> usize
-    requires { at + length (set_bytes (slots_of set.words)) ≤ length buf.old }
-    ensures { WroteAt (set_bytes (slots_of set.words)) at buf.old buf.new result }
-{
-    at + put_set(&mut buf[at..], set)
-}
-
-// How many bytes the set takes.
-pub fn set_len(set: SlotSet) -> usize
-    ensures { (result ≡ length (set_bytes (slots_of set.words))) × (result ≤ 2 * slot_count + 5) }
-{
-    if set.is_empty() {
-        return 1; // a size of 0 takes one byte
-    }
-    let count = set.count();
-    numbers::number_len(count) + count as usize + extra_len(set)
 }

@@ -1,6 +1,7 @@
 -- A word with a one for each place that passes: its trailing zeros are the lowest of them.
 use mathlib.Core.Path.{◌≡◌, sym, ap, ◌∙◌}
 use mathlib.Core.Bool.{Bool, true, false, true≢false}
+use Rattle.std.specs.Prelude.{Some}
 use Prim.Native.Nat.{ℕ, ◌+◌, ◌-◌, ◌^◌, ◌≤◌, ◌<◌}
 use native.Mathlib.Decide.{dec_lt}
 use native.Mathlib.Omega.{arith}
@@ -9,26 +10,19 @@ use Rattle.rules.specs.Constants.{max_members}
 use Rattle.slots.specs.Set.{bit}
 use Rattle.slots.proofs.Bits.{bit_zero}
 use Rattle.slots.proofs.Next.{trailing, trailing_lt}
-use Rattle.search.specs.Places.{word_places, First, Marks}
+use Rattle.search.specs.Places.{word_places, FirstPlace, Marks}
+use Rattle.search.proofs.Placing.{NoneBelow, none_to}
 
--- no place below this one passes
-abbrev pub None : (ℕ → Bool) → ℕ → Type 0
-None f n = (k : ℕ) → k < n → f k ≡ false
-
-module _ (f : ℕ → Bool) (from word : ℕ) (marks : Marks f from word) (before : None f from) where
+module _ (f : ℕ → Bool) (from word : ℕ) (marks : Marks f from word) (before : NoneBelow f from) where
   -- as far as the bits of the word are zero
-  none_to : (t : ℕ) → t ≤ word_places → ((i : ℕ) → i < t → bit word i ≡ false) → None f (from + t)
-  none_to t most off k q = go (dec_lt k from)
-    where
-      go : Dec (k < from) → f k ≡ false
-      go (yes l) = before k l
-      go (no l) =
-          let e : from + (k - from) ≡ k = omega arith in
-          ap f (sym e) ∙ sym (marks.here (k - from) (omega arith)) ∙ off (k - from) (omega arith)
+  none_to_bit : (t : ℕ) → t ≤ word_places → ((i : ℕ) → i < t → bit word i ≡ false) → NoneBelow f (from + t)
+  none_to_bit t most off = none_to (from + t) before (λ k p q.
+      let e : from + (k - from) ≡ k = omega arith in
+      ap f (sym e) ∙ sym (marks.here (k - from) (omega arith)) ∙ off (k - from) (omega arith))
 
   -- a word of zeros
-  pub none_free : word ≡ 0 → None f (from + word_places)
-  none_free z = none_to word_places (omega arith) (λ i q. ap (λ (w : ℕ). bit w i) z ∙ bit_zero i)
+  pub none_free : word ≡ 0 → NoneBelow f (from + word_places)
+  none_free z = none_to_bit word_places (omega arith) (λ i q. ap (λ (w : ℕ). bit w i) z ∙ bit_zero i)
 
   module _ (fits : word < 2 ^ 64) (some : 0 < word) where
     lowest_on : bit word (count_trailing_zeros 64 word) ≡ true
@@ -41,9 +35,12 @@ module _ (f : ℕ → Bool) (from word : ℕ) (marks : Marks f from word) (befor
         go (yes h) = h
         go (no h) = absurd (true≢false (sym lowest_on ∙ marks.past (count_trailing_zeros 64 word) (omega arith)))
 
-    pub lowest_free_lem : from + word_places ≤ max_members → First f (from + count_trailing_zeros 64 word)
-    lowest_free_lem room = record {
-      most = omega (arith, lowest_in);
-      before = none_to (count_trailing_zeros 64 word) (omega (arith, lowest_in)) (trailing 64 word).0;
-      there = λ q. sym (marks.here (count_trailing_zeros 64 word) lowest_in) ∙ lowest_on;
-    }
+    pub lowest_free_lem : from + word_places ≤ max_members → FirstPlace f (Some (from + count_trailing_zeros 64 word))
+    lowest_free_lem room = (
+      omega (arith, lowest_in),
+      record {
+        most = omega (arith, lowest_in);
+        before = none_to_bit (count_trailing_zeros 64 word) (omega (arith, lowest_in)) (trailing 64 word).0;
+        there = λ q. sym (marks.here (count_trailing_zeros 64 word) lowest_in) ∙ lowest_on;
+      },
+    )

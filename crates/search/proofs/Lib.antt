@@ -1,4 +1,3 @@
-pub mod Counting
 pub mod Freeing
 pub mod Placing
 pub mod SlotSets

@@ -1,18 +1,53 @@
 -- The first of a list that passes; and IDs compared by their four words.
 use Prim.Native.Nat.{ℕ, zero, suc, ◌+◌, ◌-◌, ◌*◌, ◌/◌, ◌%◌, ◌≤◌, ◌<◌}
 use native.Mathlib.Nat.{not-suc-le-zero, le_of_suc-le-suc}
+use native.Mathlib.Decide.{dec_lt}
 use native.Mathlib.Omega.{arith}
 use mathlib.Core.Path.{◌≡◌, refl, sym, ap, ap₂, ◌∙◌}
 use mathlib.Core.Bool.{Bool, true, false, ◌&&◌}
 use mathlib.Core.List.{List, [], ◌∷◌}
 use lib.Dec.{eqb}
 use lib.ListN.{length, get_or}
+use Rattle.std.specs.Prelude.{cond, count_by, slice_range}
+use Rattle.std.proofs.lemmas.List.{places}
+use Rattle.std.proofs.lemmas.List.Sums.{get_or-le-sum_by}
 use borrow.Author.Tests.{eq-eqb, eqb-true}
 use Rattle.rules.specs.Basics.{any, find, same}
 use Rattle.rules.proofs.Lists.{same_refl, same_eq, and_true}
-use Rattle.search.specs.Places.{first_word, id_of}
+use Rattle.rules.specs.Constants.{max_members}
+use Rattle.search.specs.Places.{step, first_word, id_of}
 
 -- ---- the first that passes
+
+-- no place below n passes
+abbrev pub NoneBelow : (ℕ → Bool) → ℕ → Type 0
+NoneBelow f n = (k : ℕ) → k < n → f k ≡ false
+
+-- nor do those up to m
+pub none_to : {f : ℕ → Bool} {n : ℕ} (m : ℕ) → NoneBelow f n → ((k : ℕ) → n ≤ k → k < m → f k ≡ false) → NoneBelow f m
+none_to {f} {n} m below next k q = go (dec_lt k n)
+  where
+    go : Dec (k < n) → f k ≡ false
+    go (yes l) = below k l
+    go (no l) = next k (omega arith) q
+
+-- a step that lacks a number has no place with it
+pub lacks : (a : ℕ) (ids : List ℕ) (from : ℕ) → from + step ≤ length ids → count_by (λ x. eqb x a) (slice_range ids from (from + step)) ≡ 0
+    → (k : ℕ) → from ≤ k → k < from + step → eqb (get_or ids k 0) a ≡ false
+lacks a ids from room none k p q = go (eqb (get_or ids k 0) a) refl
+  where
+    part : List ℕ
+    part = slice_range ids from (from + step)
+
+    here : get_or part (k - from) 0 ≡ get_or ids k 0
+    here = grind (arith, places)
+
+    one : cond (eqb (get_or part (k - from) 0) a) 1 0 ≤ count_by (λ x. eqb x a) part
+    one = get_or-le-sum_by (λ x. cond (eqb x a) 1 0) part (k - from) 0 (grind (arith, places))
+
+    go : (b : Bool) → eqb (get_or ids k 0) a ≡ b → b ≡ false
+    go false e = refl
+    go true e = let c = rw (here, e) at one in absurd (omega (arith, c, none))
 
 module _ {A : Type 0} (f : A → Bool) (d : A) where
   pub find_at : (l : List A) (r : ℕ) → r < length l → ((k : ℕ) → k < r → f (get_or l k d) ≡ false) → f (get_or l r d) ≡ true → (find f l ≡ r) × (any f l ≡ true)

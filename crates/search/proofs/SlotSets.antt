@@ -82,9 +82,6 @@ last_tells l h r = go (ltb (get_or l (length l - 1) 0) slot_count) refl
 
 -- ---- parts of a list
 
-pub none_yet : (l : List ℕ) (a b : ℕ) → b ≤ a → TellsRising l a b true
-none_yet l a b h = (λ e k p q. absurd (omega (arith, p, q, h)), λ e. absurd (true≢false e))
-
 pub no_more : (l : List ℕ) (a b : ℕ) → is_slot_set l ≡ false → TellsRising l a b false
 no_more l a b h = (λ e. absurd (true≢false (sym e)), λ e. h)
 
@@ -97,13 +94,6 @@ one_more l a b r h k p q = go (dec_lt k b)
     go (no s) = let e : b ≡ k = omega (arith, q, s) in subst (λ (j : ℕ). get_or l j 0 < get_or l (suc j) 0) e h
 
 -- an entry and the one before it
-pub rises_at : (l : List ℕ) (i : ℕ) → 1 ≤ i → Rises l 0 (i - 1) → get_or l (i - 1) 0 < get_or l i 0 → Rises l 0 (i + 1 - 1)
-rises_at l zero p r h = absurd (omega (arith, p))
-rises_at l (suc i) p r h =
-    let e : suc i - 1 ≡ i = omega arith in
-    let f : suc i + 1 - 1 ≡ suc i = omega arith in
-    subst (Rises l 0) (sym f) (one_more l 0 i (subst (Rises l 0) e r) (subst (λ (n : ℕ). get_or l n 0 < get_or l (suc i) 0) e h))
-
 pub falls_at : (l : List ℕ) (i : ℕ) → 1 ≤ i → i < length l → get_or l i 0 ≤ get_or l (i - 1) 0 → is_slot_set l ≡ false
 falls_at l zero p b h = absurd (omega (arith, p))
 falls_at l (suc i) p b h = let e : suc i - 1 ≡ i = omega arith in falls l i b (subst (λ (n : ℕ). get_or l (suc i) 0 ≤ get_or l n 0) e h)

@@ -1,5 +1,5 @@
 -- IDs as four words, in four columns that lie one after another and have an entry for each place.
-use Rattle.std.specs.Prelude.{ℕ, ◌+◌, ◌-◌, ◌*◌, ◌/◌, ◌%◌, ◌≤◌, ◌<◌, ◌≡◌, Bool, true, false, ◌&&◌, List, [], ◌∷◌, eqb, get_or}
+use Rattle.std.specs.Prelude.{ℕ, ◌+◌, ◌-◌, ◌*◌, ◌/◌, ◌%◌, ◌≤◌, ◌<◌, ◌≡◌, Bool, true, false, Option, None, Some, ◌&&◌, List, [], ◌∷◌, eqb, get_or}
 use Rattle.rules.specs.Constants.{max_members}
 use Rattle.slots.specs.Set.{bit}
 
@@ -20,16 +20,19 @@ pub record First (f : ℕ → Bool) (r : ℕ) : Type 0 where
   pub before : (k : ℕ) → k < r → f k ≡ false
   pub there : r < max_members → f r ≡ true
 
+-- the same, as the answer of a search
+abbrev pub FirstPlace : (ℕ → Bool) → Option ℕ → Type 0
+FirstPlace f None = First f max_members
+FirstPlace f (Some k) = (k < max_members) × First f k
+
 -- how many places are tried at a time
 abbrev pub step : ℕ
 step = 16
 
--- the same of the step that begins at a place
-pub record FirstIn (f : ℕ → Bool) (from r : ℕ) : Type 0 where
-  pub least : from ≤ r
-  pub most : r ≤ from + step
-  pub before : (k : ℕ) → from ≤ k → k < r → f k ≡ false
-  pub there : r < from + step → f r ≡ true
+-- r is the first place that matches, of the step that begins at `from`
+abbrev pub FirstIn : (ℕ → Bool) → ℕ → Option ℕ → Type 0
+FirstIn f from None = (k : ℕ) → from ≤ k → k < from + step → f k ≡ false
+FirstIn f from (Some r) = (from ≤ r) × (r < from + step) × ((k : ℕ) → from ≤ k → k < r → f k ≡ false) × (f r ≡ true)
 
 -- ---- places in words of 64 bits
 

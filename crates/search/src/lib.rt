@@ -1,10 +1,9 @@
 // The place of an ID, from the members' columns: 16 places at a time without a branch, by the first of its four words; then place by place.
 #![tactic(auto)]
 
-ghost use Rattle.std.specs.Prelude.{◌≡◌, true, false, ℕ, ◌+◌, ◌≤◌, ◌<◌, length, take};
+ghost use Rattle.std.specs.Prelude.{◌≡◌, ◌+◌, ◌≤◌, ◌<◌, eqb, count_by, slice_range};
 ghost use Rattle.rules.specs.Constants.{max_members};
-ghost use Rattle.search.specs.Occurrences.{occurs};
-ghost use Rattle.search.specs.Places.{cell_count, step, matches, First, FirstIn};
+ghost use Rattle.search.specs.Places.{cell_count, step, matches, FirstIn, FirstPlace};
 
 use rules::MEMBERS;
 
@@ -23,81 +22,68 @@ pub const THIRD: usize = 2 * MEMBERS;
 
 pub const FOURTH: usize = 3 * MEMBERS;
 
-// How many places are tried at a time.
+// How many places are tried at a time, and how many times that takes.
 const STEP: usize = 16;
 
-// All columns are there: behind a slice the prover knows it. No code.
-fn whole(ids: &[u32; CELLS])
-    ensures { length ids.now ≡ cell_count }
-{
-    let all: &[u32] = ids;
+const PARTS: usize = MEMBERS / STEP;
+
+// The four words that an ID lies in.
+#[derive(Clone, Copy, Debug, PartialEq, Eq)]
+pub struct Words {
+    pub a: u32,
+    pub b: u32,
+    pub c: u32,
+    pub d: u32,
 }
 
 // How often a word stands among a step's entries.
 fn count_words(ids: &[u32; CELLS], from: usize, a: u32) -> u32
-    requires { (length ids.now ≡ cell_count) × (from + step ≤ cell_count) }
-    ensures { (occurs a (take (from + step) ids.now) ≡ occurs a (take from ids.now) + result) × (result ≤ step) }
+    requires { from + step ≤ cell_count }
+    ensures { result ≡ count_by (λ x. eqb x a) (slice_range ids.now from (from + step)) }
 {
     let mut n: u32 = 0;
-    let mut i: usize = 0;
-    while i < STEP {
-        let here = from + i;
-        i += 1;
-        if ids[here] == a {
+    for id in &ids[from..from + STEP] {
+        if *id == a {
             n += 1;
         }
     }
     n
 }
 
-// Whether the four words of the place are these.
-fn is_at(ids: &[u32; CELLS], k: usize, a: u32, b: u32, c: u32, d: u32) -> bool
+// Whether the four words of the place are these; no word is branched on.
+fn is_at(ids: &[u32; CELLS], k: usize, w: Words) -> bool
     requires { k < max_members }
-    ensures { result ≡ matches ids.now a b c d k }
+    ensures { result ≡ matches ids.now w.a w.b w.c w.d k }
 {
-    if ids[k] != a {
-        return false;
-    }
-    if ids[k + SECOND] != b {
-        return false;
-    }
-    if ids[k + THIRD] != c {
-        return false;
-    }
-    ids[k + FOURTH] == d
+    (ids[k] == w.a)
+        & ((ids[k + SECOND] == w.b) & ((ids[k + THIRD] == w.c) & (ids[k + FOURTH] == w.d)))
 }
 
-// The first place of a step that begins at `from`, or the place after it.
-fn find_in(ids: &[u32; CELLS], from: usize, a: u32, b: u32, c: u32, d: u32) -> usize
+// The first place with these words, of a step that begins at `from`.
+fn find_in(ids: &[u32; CELLS], from: usize, w: Words) -> Option<usize>
     requires { from + step ≤ max_members }
-    ensures { FirstIn (matches ids.now a b c d) from result }
+    ensures { FirstIn (matches ids.now w.a w.b w.c w.d) from result }
 {
-    let mut k = from;
-    let end = from + STEP;
-    while k < end {
-        if is_at(ids, k, a, b, c, d) {
-            return k;
+    for k in from..from + STEP {
+        if is_at(ids, k, w) {
+            return Some(k);
         }
-        k += 1;
     }
-    k
+    None
 }
 
-// The first place with these words, or MEMBERS.
-pub fn find(ids: &[u32; CELLS], a: u32, b: u32, c: u32, d: u32) -> usize
-    ensures { First (matches ids.now a b c d) result }
+// The first place with these words.
+pub fn find(ids: &[u32; CELLS], w: Words) -> Option<usize>
+    ensures { FirstPlace (matches ids.now w.a w.b w.c w.d) result }
 {
-    whole(ids);
-    let mut from: usize = 0;
-    while from < MEMBERS {
-        let here = from;
-        from += STEP;
-        if count_words(ids, here, a) != 0 {
-            let k = find_in(ids, here, a, b, c, d);
-            if k < from {
-                return k;
+    for part in 0..PARTS {
+        let from = part * STEP;
+        let n = count_words(ids, from, w.a);
+        if n != 0 {
+            if let Some(k) = find_in(ids, from, w) {
+                return Some(k);
             }
         }
     }
-    MEMBERS
+    None
 }

@@ -14,10 +14,8 @@ fn rises_from(list: &[u16], from: usize) -> bool
     ensures { TellsRising list.now from (from + stride) result }
 {
     let mut rises = true;
-    let mut i: usize = 0;
-    while i < STRIDE {
+    for i in 0..STRIDE {
         let here = from + i;
-        i += 1;
         rises = rises & (list[here] < list[here + 1]);
     }
     rises
@@ -28,10 +26,7 @@ fn rises_by_one(list: &[u16]) -> bool
     requires { 0 < length list.now }
     ensures { TellsRising list.now 0 (length list.now - 1) result }
 {
-    let mut i: usize = 1;
-    while i < list.len() {
-        let here = i;
-        i += 1;
+    for here in 1..list.len() {
         if list[here] <= list[here - 1] {
             return false;
         }
@@ -48,11 +43,8 @@ fn rises(list: &[u16]) -> bool
     if last < STRIDE {
         return rises_by_one(list);
     }
-    let mut from: usize = 0;
-    while from < last - STRIDE {
-        if rises_from(list, from) {
-            from += STRIDE;
-        } else {
+    for stride in 0..(last - 1) / STRIDE {
+        if !rises_from(list, stride * STRIDE) {
             return false;
         }
     }
@@ -63,11 +55,8 @@ fn rises(list: &[u16]) -> bool
 pub fn is_slot_set(list: &[u16]) -> bool
     ensures { result ≡ is_slot_set list.now }
 {
-    if list.len() == 0 {
-        return true;
+    match list.last() {
+        Some(last) => rises(list) && *last < SLOT_END,
+        None => true,
     }
-    if rises(list) {
-        return list[list.len() - 1] < SLOT_END;
-    }
-    false
 }

@@ -6,3 +6,4 @@ pub mod Counting
 pub mod Gathering
 pub mod Each
 pub mod Steps
+pub mod Turns

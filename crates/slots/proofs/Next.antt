@@ -1,22 +1,20 @@
--- The next slot of a set, by words. What is left of a word from a slot on is the word shifted down to it (`at_slot`); the count of its trailing zeros is
--- how far the next slot lies ahead, and where nothing is left the search goes on at the next word.
-use mathlib.Core.Path.{◌≡◌, refl, sym, ap, ap₂, ◌∙◌}
+-- The lowest and the highest bit of a word, slots that are all passed over, and whether a set has a slot at all.
+use mathlib.Core.Path.{◌≡◌, refl, sym, ap, ◌∙◌}
 use mathlib.Core.Bool.{Bool, true, false, true≢false}
-use mathlib.Core.List.{List}
-use Prim.Native.Nat.{ℕ, zero, suc, ◌+◌, ◌-◌, ◌*◌, ◌/◌, ◌%◌, ◌^◌, ◌≤◌, ◌<◌, suc-le-suc}
+use mathlib.Core.List.{List, [], ◌∷◌}
+use Prim.Native.Nat.{ℕ, zero, suc, ◌+◌, ◌*◌, ◌/◌, ◌%◌, ◌^◌, ◌≤◌, ◌<◌, suc-le-suc}
 use native.Mathlib.Nat.{pow-suc, mod-lt}
 use native.Mathlib.Decide.{dec_lt}
-use native.Mathlib.Numerals.{add-one}
 use native.Mathlib.Omega.{arith}
 use lib.Dec.{eqb, lit<}
-use lib.ListN.{length, get_or}
+use lib.ListN.{length, get_or, replicate, get_or-replicate}
+use lib.Pointwise.{pointwise, bytes_decides}
 use lib.Pow.{shr-shr}
 use lib.Count.{count_trailing_zeros, under}
-use borrow.Author.Tests.{eqb-true, eqb-false}
-use Rattle.rules.specs.Constants.{slot_count}
-use Rattle.slots.specs.Set.{bit, has, NextFrom, TellsEmpty, word_count}
+use Rattle.slots.specs.Set.{bit, has, TellsEmpty, word_count}
 use Rattle.slots.proofs.Bits.{bit_suc, bit_low, bit_zero}
-use Rattle.slots.proofs.Words.{has_past}
+use Rattle.slots.proofs.Counting.{in_word}
+use Rattle.slots.proofs.Words.{has_none}
 
 -- the machine's count of trailing zeros of a word of k bits: the place of its lowest set bit, or k
 pub trailing : (k n : ℕ) → ((i : ℕ) → i < count_trailing_zeros k n → bit n i ≡ false) × (count_trailing_zeros k n < k → bit n (count_trailing_zeros k n) ≡ true)
@@ -67,59 +65,6 @@ bit_top (suc j) w l h =
     let h2 : w < 2 ^ suc j * 2 = rw (pow-suc 2 (suc j)) at h in
     bit_suc w j ∙ bit_top j (w / 2) (omega arith) (omega arith)
 
-not_zero : (n : ℕ) → (n ≡ 0 → ⊥) → 0 < n
-not_zero zero h = absurd (h refl)
-not_zero (suc n) h = omega arith
-
--- place k + d of a word is the slot s + d
-at_slot : (ws : List ℕ) (s x : ℕ) → s ≤ x → x < (s / 64 + 1) * 64 → has ws x ≡ bit (get_or ws (s / 64) 0 / 2 ^ (s % 64)) (x - s)
-at_slot ws s x h l =
-    let e : x / 64 ≡ s / 64 = omega arith in
-    let m : x % 64 ≡ s % 64 + (x - s) = omega arith in
-    ap₂ (λ (i j : ℕ). bit (get_or ws i 0) j) e m ∙ bit_shr (get_or ws (s / 64) 0) (s % 64) (x - s)
-
--- nothing in what is left of the word
-pub word_none : (ws : List ℕ) (s : ℕ) → get_or ws (s / 64) 0 / 2 ^ (s % 64) ≡ 0 → (x : ℕ) → s ≤ x → x < (s / 64 + 1) * 64 → has ws x ≡ false
-word_none ws s e x h l = at_slot ws s x h l ∙ ap (λ (w : ℕ). bit w (x - s)) e ∙ bit_zero (x - s)
-
-div_le : (w k : ℕ) → w / 2 ^ k ≤ w
-div_le w zero = omega arith
-div_le w (suc k) =
-    let e : w / 2 ^ suc k ≡ w / 2 ^ k / 2 = (ap (λ (n : ℕ). w / 2 ^ n) (sym (add-one k)) ∙ sym (shr-shr w k 1)) in
-    omega (arith, div_le w k, e)
-
-module _ (ws : List ℕ) (s : ℕ) (fits : get_or ws (s / 64) 0 < 2 ^ 64) (some : get_or ws (s / 64) 0 / 2 ^ (s % 64) ≡ 0 → ⊥) where
-  abbrev w : ℕ
-  w = get_or ws (s / 64) 0 / 2 ^ (s % 64)
-
-  abbrev t : ℕ
-  t = count_trailing_zeros 64 w
-
-  t_lt : t < 64
-  t_lt = trailing_lt 64 w (not_zero w some) (omega (arith, div_le (get_or ws (s / 64) 0) (s % 64), fits))
-
-  t_on : bit w t ≡ true
-  t_on = (trailing 64 w).1 t_lt
-
-  in_word : s % 64 + t < 64
-  in_word = go (dec_lt (s % 64 + t) 64)
-    where
-      go : Dec (s % 64 + t < 64) → s % 64 + t < 64
-      go (yes h) = h
-      go (no h) = absurd (true≢false (sym t_on ∙ sym (bit_shr (get_or ws (s / 64) 0) (s % 64) t) ∙ bit_high 64 (get_or ws (s / 64) 0) (s % 64 + t) fits
-          (omega arith)))
-
-  pub word_at : s + count_trailing_zeros 64 (get_or ws (s / 64) 0 / 2 ^ (s % 64)) < (s / 64 + 1) * 64
-  word_at = omega (arith, in_word)
-
-  pub word_before : (x : ℕ) → s ≤ x → x < s + count_trailing_zeros 64 (get_or ws (s / 64) 0 / 2 ^ (s % 64)) → has ws x ≡ false
-  word_before x h l = at_slot ws s x h (omega (arith, word_at)) ∙ (trailing 64 w).0 (x - s) (omega arith)
-
-  pub word_on : has ws (s + count_trailing_zeros 64 (get_or ws (s / 64) 0 / 2 ^ (s % 64))) ≡ true
-  word_on =
-      let e : s + t - s ≡ t = omega arith in
-      at_slot ws s (s + t) (omega arith) word_at ∙ ap (bit w) e ∙ t_on
-
 -- what holds of the slots up to i and from i up to j holds of those up to j
 pub none_join : (f : ℕ → Bool) (from i j : ℕ) → ((s : ℕ) → from ≤ s → s < i → f s ≡ false) → ((s : ℕ) → i ≤ s → s < j → f s ≡ false) → (s : ℕ)
     → from ≤ s → s < j → f s ≡ false
@@ -133,17 +78,26 @@ none_join f from i j h k s p q = go (dec_lt s i)
 pub none_one : (f : ℕ → Bool) (i : ℕ) → f i ≡ false → (s : ℕ) → i ≤ s → s < i + 1 → f s ≡ false
 none_one f i e s p q = let same : s ≡ i = omega arith in ap f same ∙ e
 
--- a set whose lowest slot is past the end has none
-pub none_next : (ws : List ℕ) (r : ℕ) → length ws ≡ word_count → NextFrom ws 0 r → TellsEmpty ws (eqb r slot_count)
-none_next ws r l n = (λ e s. past e s (dec_lt s slot_count), λ e. (r, (n.2 (below (eqb-false r slot_count e))).1))
-  where
-    past : eqb r slot_count ≡ true → (s : ℕ) → Dec (s < slot_count) → has ws s ≡ false
-    past e s (yes h) = n.1 s (omega arith) (omega (arith, eqb-true r slot_count e))
-    past e s (no h) = has_past ws s (omega arith)
+-- a list that is not all zeros
+some_word : (ws : List ℕ) (n : ℕ) → length ws ≡ n → pointwise eqb ws (replicate n 0) ≡ false → (k : ℕ) × (0 < get_or ws k 0)
+some_word [] zero l e = absurd (true≢false e)
+some_word [] (suc n) l e = absurd (omega arith)
+some_word (zero ∷ ws) zero l e = absurd (omega arith)
+some_word (suc w ∷ ws) n l e = (0, omega arith)
+some_word (zero ∷ ws) (suc n) l e = let x = some_word ws n (omega arith) e in (suc x.0, x.1)
 
-    below : (r ≡ slot_count → ⊥) → r < slot_count
-    below e = go (dec_lt r slot_count)
-      where
-        go : Dec (r < slot_count) → r < slot_count
-        go (yes h) = h
-        go (no h) = absurd (e (omega (arith, n.0)))
+-- a set has a slot where its words are not all zeros
+pub tells_empty : (ws : List ℕ) → length ws ≡ word_count → ((k : ℕ) → get_or ws k 0 < 2 ^ 64) → (r : Bool) → r ≡ pointwise eqb ws (replicate word_count 0)
+    → TellsEmpty ws r
+tells_empty ws l fits r e = (λ h. has_none ws (zeros (sym e ∙ h)), λ h. some (some_word ws word_count l (sym e ∙ h)))
+  where
+    zeros : pointwise eqb ws (replicate word_count 0) ≡ true → (k : ℕ) → k < length ws → get_or ws k 0 ≡ 0
+    zeros h k q =
+        ap (λ (x : List ℕ). get_or x k 0) ((bytes_decides ws (replicate word_count 0)).0 h) ∙ get_or-replicate word_count k 0 0 (omega arith)
+
+    some : (k : ℕ) × (0 < get_or ws k 0) → (s : ℕ) × (has ws s ≡ true)
+    some x =
+        let w = get_or ws x.0 0 in
+        let t = count_trailing_zeros 64 w in
+        let h = trailing_lt 64 w x.1 (fits x.0) in
+        (x.0 * 64 + t, in_word ws x.0 t h ∙ (trailing 64 w).1 h)

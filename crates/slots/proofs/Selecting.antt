@@ -6,7 +6,6 @@ use mathlib.Core.Bool.{Bool, true, false}
 use mathlib.Core.List.{List, [], ◌∷◌, ◌++◌}
 use Prim.Native.Nat.{ℕ, zero, suc, ◌+◌, ◌-◌, ◌≤◌, ◌<◌}
 use native.Mathlib.Nat.{add-suc, add-zero, suc-add, zero-add}
-use native.Mathlib.Decide.{dec_lt}
 use native.Mathlib.Numerals.{add-one}
 use native.Mathlib.Omega.{arith}
 use lib.Dec.{eqb}
@@ -14,7 +13,7 @@ use lib.ListN.{length}
 use Rattle.rules.specs.Basics.{any, keep, same, up_to}
 use Rattle.rules.specs.Constants.{slot_count}
 use Rattle.rules.proofs.Lists.{keep_ext, keep_has, same_eq}
-use Rattle.slots.specs.Set.{has, select, slots_of, NextFrom}
+use Rattle.slots.specs.Set.{has, select, slots_of}
 
 -- the first of the numbers that are left is picked, or is not
 module _ (f : ℕ → Bool) (s n : ℕ) (h : s < n) where
@@ -69,18 +68,6 @@ select_skip f n i j h l z =
 pub select_none : (f : ℕ → Bool) (i n : ℕ) → i ≤ n → ((s : ℕ) → i ≤ s → s < n → f s ≡ false) → select f i (n - i) ≡ []
 unfolding keep up_to
 select_none f i n h z = let e : n - n ≡ 0 = omega arith in select_skip f n i n h (omega arith) z ∙ ap (select f n) e
-
--- what `next` passes over, from a number that is not past the end
-module _ (ws : List ℕ) (from r : ℕ) (h : from ≤ slot_count) (n : NextFrom ws from r) where
-  pub next_ahead : from ≤ r
-  next_ahead = go (dec_lt r slot_count)
-    where
-      go : Dec (r < slot_count) → from ≤ r
-      go (yes l) = (n.2 l).0
-      go (no l) = omega arith
-
-  pub next_skips : select (has ws) from (slot_count - from) ≡ select (has ws) r (slot_count - r)
-  next_skips = select_skip (has ws) slot_count from r next_ahead n.0 n.1
 
 -- sets that agree have the same list
 pub slots_are : (ws : List ℕ) (f : ℕ → Bool) → ((s : ℕ) → s < slot_count → has ws s ≡ f s) → slots_of ws ≡ select f 0 slot_count

@@ -1,86 +1,141 @@
--- Steps from one slot to the next. What is left of a word from slot s on is the word shifted down to it; its lowest bit is the next slot, and what is left
--- above that is the shifted word shifted on (`step_within`). Where nothing is left, the walk goes on at the next word (`none_left`).
-use mathlib.Core.Path.{◌≡◌, sym, ap, ap₂, ◌∙◌, subst}
-use mathlib.Core.Bool.{false}
-use mathlib.Core.List.{List}
-use Prim.Native.Nat.{ℕ, ◌+◌, ◌*◌, ◌/◌, ◌%◌, ◌^◌, ◌≤◌, ◌<◌}
-use native.Mathlib.Decide.{dec_lt}
-use native.Mathlib.Nat.{div-one}
+-- The slots of a set, from one to the next. The next one is the lowest bit of what is left of a word (`take_first`), and `w & (w - 1)` takes that bit off
+-- (`take_off`); where nothing is left (`none_in`), the walk enters the next word (`enter`).
+use mathlib.Core.Path.{◌≡◌, refl, sym, ap, ◌∙◌}
+use mathlib.Core.Bool.{Bool, true, false, not, ◌&&◌, and-false}
+use mathlib.Core.List.{List, [], ◌∷◌, ◌++◌}
+use Prim.Native.Nat.{ℕ, zero, suc, ◌+◌, ◌-◌, ◌*◌, ◌/◌, ◌%◌, ◌^◌, ◌≤◌, ◌<◌}
+use native.Mathlib.Nat.{add-suc, add-zero, mod-lt, pow-suc, suc-add}
 use native.Mathlib.Omega.{arith}
-use lib.Count.{count_trailing_zeros}
+use lib.Bits.{bit_and}
+use lib.Count.{count_trailing_zeros, under}
+use lib.Dec.{eqb, eqb-suc-suc, eqb-suc-zero, lit<}
 use lib.ListN.{get_or}
-use lib.Pow.{shr-shr}
-use Rattle.rules.specs.Constants.{slot_count}
-use Rattle.slots.specs.Set.{has, NextFrom}
-use Rattle.slots.specs.Walk.{Steps}
-use Rattle.slots.specs.declared.walking.Step.{Step}
-use Rattle.slots.proofs.Next.{none_join, word_at, word_before, word_none, word_on}
+use Rattle.rules.specs.Basics.{keep, up_to}
+use Rattle.rules.proofs.Lists.{keep_ext}
+use Rattle.slots.specs.Set.{bit, has, select, slots_of, word_count}
+use Rattle.slots.specs.Walk.{slots_in, slots_from}
+use Rattle.slots.proofs.Bits.{bit_and_lem, bit_low, bit_suc, bit_zero}
+use Rattle.slots.proofs.Next.{trailing, trailing_lt}
+use Rattle.slots.proofs.Selecting.{select_split}
 
--- the walk begins earlier, where no slot lies between
-pub steps_join : (ws : List ℕ) (from s : ℕ) (r : Step) → from ≤ s → ((x : ℕ) → from ≤ x → x < s → has ws x ≡ false) → Steps ws s r → Steps ws from r
-steps_join ws from s r h off (n, left) = ((n.0, none_join (has ws) from s r.slot off n.1, λ q. (omega (arith, (n.2 q).0), (n.2 q).1)), left)
+twice : (b : Bool) → (b && b) ≡ (b && not false)
+twice true = refl
+twice false = refl
 
--- the word from slot s on
-abbrev pub from_slot : List ℕ → ℕ → ℕ
-from_slot ws s = get_or ws (s / 64) 0 / 2 ^ (s % 64)
+-- a word and one below it have the same bits, but for the lowest that is set and those below it
+below_lowest : (k w : ℕ) → 0 < w → w < 2 ^ k → (i : ℕ) → (bit w i && bit (w - 1) i) ≡ (bit w i && not (eqb i (count_trailing_zeros k w)))
+unfolding count_trailing_zeros
+below_lowest zero w p h = absurd (omega arith)
+below_lowest (suc k) w p h = go (w % 2) refl (mod-lt w (lit< tt)) (below_lowest k (w / 2))
+  where
+    h2 : w < 2 ^ k * 2
+    h2 = rw pow-suc at h
 
--- at the first slot of a word it is the word
-pub from_start : (ws : List ℕ) (k : ℕ) → from_slot ws (k * 64) ≡ get_or ws k 0
-from_start ws k =
-    let a : k * 64 / 64 ≡ k = omega arith in
-    let b : k * 64 % 64 ≡ 0 = omega arith in
-    rw (a, b) (div-one (get_or ws k 0))
+    low : (x d : ℕ) → x % 2 ≡ d → bit x 0 ≡ eqb d 1
+    low x d e = bit_low x ∙ ap (λ (y : ℕ). eqb y 1) e
 
-module _ (ws : List ℕ) (s : ℕ) (h : s < slot_count) (fits : get_or ws (s / 64) 0 < 2 ^ 64) (some : 0 < from_slot ws s) where
-  abbrev t : ℕ
-  t = count_trailing_zeros 64 (from_slot ws s)
+    go : (d : ℕ) → w % 2 ≡ d → d < 2
+        → (0 < w / 2 → w / 2 < 2 ^ k → (i : ℕ) → (bit (w / 2) i && bit (w / 2 - 1) i) ≡ (bit (w / 2) i && not (eqb i (count_trailing_zeros k (w / 2)))))
+        → (i : ℕ) → (bit w i && bit (w - 1) i) ≡ (bit w i && not (eqb i (under d (count_trailing_zeros k (w / 2)))))
+    go zero e l ih zero = rw (low w 0 e) refl
+    go zero e l ih (suc i) =
+        let half : (w - 1) / 2 ≡ w / 2 - 1 = omega arith in
+        rw (bit_suc w i, bit_suc (w - 1) i, half, eqb-suc-suc i (count_trailing_zeros k (w / 2))) (ih (omega arith) (omega arith) i)
+    go (suc zero) e l ih zero = rw (low (w - 1) 0 (omega arith)) refl
+    go (suc zero) e l ih (suc i) =
+        let half : (w - 1) / 2 ≡ w / 2 = omega arith in
+        rw (bit_suc w i, bit_suc (w - 1) i, half, eqb-suc-zero i) (twice (bit (w / 2) i))
+    go (suc (suc d)) e l ih i = absurd (omega arith)
 
-  not_none : from_slot ws s ≡ 0 → ⊥
-  not_none e = omega (arith, e, some)
+-- the word without its lowest bit
+take_off : (w i : ℕ) → 0 < w → w < 2 ^ 64 → bit (bit_and w (w - 1)) i ≡ (bit w i && not (eqb i (count_trailing_zeros 64 w)))
+take_off w i p h = bit_and_lem w (w - 1) i ∙ below_lowest 64 w p h i
 
-  within : s + t < (s / 64 + 1) * 64
-  within = word_at ws s fits not_none
+-- the first number that is picked, and those that are picked when it is not
+select_first : (f g : ℕ → Bool) (n b t : ℕ) → t < n → ((i : ℕ) → i < t → f (b + i) ≡ false) → f (b + t) ≡ true
+    → ((i : ℕ) → i < n → g (b + i) ≡ (f (b + i) && not (eqb i t))) → select f b n ≡ (b + t) ∷ select g b n
+unfolding keep up_to
+select_first f g zero b t l before on is = absurd (omega arith)
+select_first f g (suc n) b zero l before on is =
+    let here : f b ≡ true = ap f (sym (add-zero b)) ∙ on in
+    let gone : g b ≡ false = ap g (sym (add-zero b)) ∙ is 0 (omega arith) ∙ and-false (f (b + 0)) in
+    rw (here, gone, add-zero b) (ap (λ (l : List ℕ). b ∷ l) (keep_ext f g (suc b) n (λ s p q. sym (later s p q))))
+  where
+    later : (s : ℕ) → suc b ≤ s → s < suc b + n → g s ≡ f s
+    later s p q =
+        let e : b + suc (s - suc b) ≡ s = omega arith in
+        ap g (sym e) ∙ is (suc (s - suc b)) (omega arith) ∙ rw (e, eqb-suc-zero (s - suc b)) (same (f s))
+      where
+        same : (x : Bool) → (x && not false) ≡ x
+        same true = refl
+        same false = refl
+select_first f g (suc n) b (suc t) l before on is =
+    let out : f b ≡ false = ap f (sym (add-zero b)) ∙ before 0 (omega arith) in
+    let gone : g b ≡ false = ap g (sym (add-zero b)) ∙ is 0 (omega arith) ∙ ap (λ (x : Bool). x && not (eqb 0 (suc t))) (ap f (add-zero b) ∙ out) in
+    rw (out, gone, add-suc b t, ← suc-add b t) (select_first f g n (suc b) t (omega arith) (λ i q. at i ∙ before (suc i) (omega arith)) (at t ∙ on)
+    (λ i q. ap g (next i) ∙ is (suc i) (omega arith) ∙ rw (next i, eqb-suc-suc i t) refl))
+  where
+    next : (i : ℕ) → suc b + i ≡ b + suc i
+    next i = omega arith
 
-  left_on : from_slot ws s / 2 ^ t / 2 ≡ from_slot ws (s + t) / 2
-  left_on =
-      let a : (s + t) / 64 ≡ s / 64 = omega (arith, within) in
-      let b : (s + t) % 64 ≡ s % 64 + t = omega (arith, within) in
-      ap (λ (n : ℕ). n / 2) (shr-shr (get_or ws (s / 64) 0) (s % 64) t ∙ sym (ap₂ (λ (i j : ℕ). get_or ws i 0 / 2 ^ j) a b))
+    at : (i : ℕ) → f (suc b + i) ≡ f (b + suc i)
+    at i = ap f (next i)
 
-  pub step_within : (r : Step) → r.slot ≡ s + count_trailing_zeros 64 (from_slot ws s) → r.left ≡ from_slot ws s / 2 ^ count_trailing_zeros 64 (from_slot ws s) / 2 → Steps ws s r
-  step_within r e l =
-      let n : NextFrom ws s (s + t) = (omega (arith, within), word_before ws s fits not_none, λ q. (omega arith, word_on ws s fits not_none)) in
-      (subst (NextFrom ws s) (sym e) n, λ q. l ∙ left_on ∙ ap (λ (x : ℕ). from_slot ws x / 2) (sym e))
+-- the slot of the lowest bit, and those of the others
+pub take_first : (w i : ℕ) → 0 < w → w < 2 ^ 64 → slots_in w i ≡ (i * 64 + count_trailing_zeros 64 w) ∷ slots_in (bit_and w (w - 1)) i
+take_first w i p h =
+    select_first (λ s. bit w (s % 64)) (λ s. bit (bit_and w (w - 1)) (s % 64)) 64 (i * 64) (count_trailing_zeros 64 w) below
+    (λ j l. ap (bit w) (within j (omega (arith, below))) ∙ (trailing 64 w).0 j l) (ap (bit w) (within (count_trailing_zeros 64 w) below) ∙ (trailing 64 w).1 below)
+    (λ j l. rw (within j l) (take_off w j p h))
+  where
+    below : count_trailing_zeros 64 w < 64
+    below = trailing_lt 64 w p h
+
+    within : (j : ℕ) → j < 64 → (i * 64 + j) % 64 ≡ j
+    within j l = omega arith
+
+-- nothing is left
+none_picked : (f : ℕ → Bool) (b n : ℕ) → ((s : ℕ) → f s ≡ false) → select f b n ≡ []
+unfolding keep up_to
+none_picked f b zero h = refl
+none_picked f b (suc n) h = rw (h b) (none_picked f (suc b) n h)
+
+pub none_in : (i : ℕ) → slots_in 0 i ≡ []
+none_in i = none_picked (λ s. bit 0 (s % 64)) (i * 64) 64 (λ s. bit_zero (s % 64))
+
+-- the slots from a word on are its own and those of the words after it
+pub enter : (ws : List ℕ) (i : ℕ) → i < word_count → slots_from ws i ≡ slots_in (get_or ws i 0) i ++ slots_from ws (i + 1)
+enter ws i h =
+    let e : (word_count - i) * 64 ≡ 64 + (word_count - (i + 1)) * 64 = omega arith in
+    let n : i * 64 + 64 ≡ (i + 1) * 64 = omega arith in
+    ap (select (has ws) (i * 64)) e ∙ select_split (has ws) (i * 64) 64 ((word_count - (i + 1)) * 64)
+    ∙ ap (λ (b : ℕ). select (has ws) (i * 64) 64 ++ select (has ws) b ((word_count - (i + 1)) * 64)) n
+    ∙ ap (λ (l : List ℕ). l ++ slots_from ws (i + 1)) (keep_ext (has ws) (λ s. bit (get_or ws i 0) (s % 64)) (i * 64) 64 own)
+  where
+    own : (s : ℕ) → i * 64 ≤ s → s < i * 64 + 64 → has ws s ≡ bit (get_or ws i 0) (s % 64)
+    own s p q = let e : s / 64 ≡ i = omega arith in ap (λ (k : ℕ). bit (get_or ws k 0) (s % 64)) e
 
 -- past the last word there is nothing
-pub steps_end : (ws : List ℕ) (from : ℕ) (r : Step) → r.slot ≡ slot_count → ((x : ℕ) → from ≤ x → x < slot_count → has ws x ≡ false) → Steps ws from r
-steps_end ws from r e off = ((omega (arith, e), λ x p q. off x p (omega (arith, e)), λ q. absurd (omega (arith, e))), λ q. absurd (omega (arith, e)))
+pub none_from : (ws : List ℕ) (i : ℕ) → word_count ≤ i → slots_from ws i ≡ []
+unfolding keep up_to
+none_from ws i h = let e : (word_count - i) * 64 ≡ 0 = omega arith in ap (select (has ws) (i * 64)) e
 
--- ---- above a slot
+pub all_from : (ws : List ℕ) → slots_from ws 0 ≡ slots_of ws
+unfolding slots_of
+all_from ws = refl
 
-module _ (ws : List ℕ) (s : ℕ) (fits : get_or ws (s / 64) 0 < 2 ^ 64) where
-  -- it is the highest of its word, or what is left is the word from the next slot on
-  left_is : s % 64 < 63 → from_slot ws s / 2 ≡ from_slot ws (s + 1)
-  left_is h =
-      let a : (s + 1) / 64 ≡ s / 64 = omega arith in
-      let b : (s + 1) % 64 ≡ s % 64 + 1 = omega arith in
-      shr-shr (get_or ws (s / 64) 0) (s % 64) 1 ∙ sym (ap₂ (λ (i j : ℕ). get_or ws i 0 / 2 ^ j) a b)
+-- ---- a walk: what is left of word i is w
 
-  top_none : (s % 64 < 63 → ⊥) → from_slot ws s / 2 ≡ 0
-  top_none h =
-      let e : s % 64 ≡ 63 = omega arith in
-      ap (λ (j : ℕ). get_or ws (s / 64) 0 / 2 ^ j / 2) e ∙ omega (arith, fits)
+module _ (ws : List ℕ) (w i : ℕ) where
+  pub gives : 0 < w → w < 2 ^ 64
+      → slots_in w i ++ slots_from ws (i + 1) ≡ (i * 64 + count_trailing_zeros 64 w) ∷ slots_in (bit_and w (w - 1)) i ++ slots_from ws (i + 1)
+  gives p h = ap (λ (l : List ℕ). l ++ slots_from ws (i + 1)) (take_first w i p h)
 
-  pub left_next : 0 < from_slot ws s / 2 → (s % 64 < 63) × (from_slot ws s / 2 ≡ from_slot ws (s + 1))
-  left_next some = go (dec_lt (s % 64) 63)
-    where
-      go : Dec (s % 64 < 63) → (s % 64 < 63) × (from_slot ws s / 2 ≡ from_slot ws (s + 1))
-      go (yes h) = (h, left_is h)
-      go (no h) = absurd (omega (arith, some, top_none h))
+  nothing : w ≡ 0 → slots_in w i ++ slots_from ws (i + 1) ≡ slots_from ws (i + 1)
+  nothing e = ap (λ (x : ℕ). slots_in x i ++ slots_from ws (i + 1)) e ∙ ap (λ (l : List ℕ). l ++ slots_from ws (i + 1)) (none_in i)
 
-  pub none_left : from_slot ws s / 2 ≡ 0 → (x : ℕ) → s + 1 ≤ x → x < (s / 64 + 1) * 64 → has ws x ≡ false
-  none_left z x p q = go (dec_lt (s % 64) 63)
-    where
-      go : Dec (s % 64 < 63) → has ws x ≡ false
-      go (yes h) = word_none ws (s + 1) (sym (left_is h) ∙ z) x p (omega arith)
-      go (no h) = absurd (omega arith)
+  pub goes_on : w ≡ 0 → i + 1 < word_count → slots_in w i ++ slots_from ws (i + 1) ≡ slots_in (get_or ws (i + 1) 0) (i + 1) ++ slots_from ws (i + 1 + 1)
+  goes_on e h = nothing e ∙ enter ws (i + 1) h
+
+  pub is_over : w ≡ 0 → word_count ≤ i + 1 → slots_in w i ++ slots_from ws (i + 1) ≡ []
+  is_over e h = nothing e ∙ none_from ws (i + 1) h

@@ -1,5 +1,5 @@
 -- Sets of slots. A set is kept as words of 64 bits: slot s is bit s % 64 of word s / 64.
-use Rattle.std.specs.Prelude.{◌≡◌, Bool, true, false, List, ℕ, ◌/◌, ◌%◌, ◌^◌, ◌≤◌, ◌<◌, eqb, get_or}
+use Rattle.std.specs.Prelude.{◌≡◌, Bool, true, false, List, ℕ, ◌/◌, ◌%◌, ◌^◌, eqb, get_or}
 use Rattle.rules.specs.Basics.{keep, up_to}
 use Rattle.rules.specs.Constants.{slot_count}
 
@@ -31,8 +31,3 @@ TellsEmpty ws r = (r ≡ true → (s : ℕ) → has ws s ≡ false) × (r ≡ fa
 abbrev pub TellsSubset : List ℕ → List ℕ → Bool → Type 0
 TellsSubset a b r =
     (r ≡ true → (s : ℕ) → has a s ≡ true → has b s ≡ true) × (r ≡ false → (s : ℕ) × (has a s ≡ true) × (has b s ≡ false))
-
--- r is the lowest slot from `from` on, or the number of slots where there is none
-abbrev pub NextFrom : List ℕ → ℕ → ℕ → Type 0
-NextFrom ws from r =
-    (r ≤ slot_count) × ((s : ℕ) → from ≤ s → s < r → has ws s ≡ false) × (r < slot_count → (from ≤ r) × (has ws r ≡ true))

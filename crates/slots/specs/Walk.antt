@@ -1,13 +1,16 @@
--- A walk over a set.
-use Rattle.std.specs.Prelude.{◌≡◌, List, ℕ, ◌/◌, ◌%◌, ◌^◌, ◌<◌, get_or}
-use Rattle.rules.specs.Constants.{slot_count}
-use Rattle.slots.specs.Set.{NextFrom}
-use Rattle.slots.specs.declared.walking.Step.{Step}
+-- The slots that a walk over a set has still to give.
+use Rattle.std.specs.Prelude.{List, ◌++◌, ℕ, ◌+◌, ◌-◌, ◌*◌, ◌%◌}
+use Rattle.slots.specs.Set.{select, bit, has, word_count}
+use Rattle.slots.specs.declared.walking.Slots.{Slots}
 
--- a step at a slot keeps the bits of the slot's word above its own
-abbrev pub Left : List ℕ → Step → Type 0
-Left ws s = s.slot < slot_count → s.left ≡ get_or ws (s.slot / 64) 0 / 2 ^ (s.slot % 64) / 2
+-- the slots that the bits of the word w stand for, if it is word i of a set
+abbrev pub slots_in : ℕ → ℕ → List ℕ
+slots_in w i = select (λ s. bit w (s % 64)) (i * 64) 64
 
--- a step to the lowest slot from `from` on
-abbrev pub Steps : List ℕ → ℕ → Step → Type 0
-Steps ws from r = NextFrom ws from r.slot × Left ws r
+-- the slots of the set, from those of word i on
+abbrev pub slots_from : List ℕ → ℕ → List ℕ
+slots_from ws i = select (has ws) (i * 64) ((word_count - i) * 64)
+
+-- those of what is left of a word, and then those of the words after it
+unfoldable pub rest : Slots → List ℕ
+rest w = slots_in w.left w.word ++ slots_from w.set.words (w.word + 1)

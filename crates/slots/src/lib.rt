@@ -7,11 +7,11 @@ ghost use Rattle.rules.specs.Constants.{no_place};
 ghost use Rattle.numbers.specs.Buffer.{Wrote};
 ghost use Rattle.slots.specs.Set.{bit, has, slots_of, TellsEmpty, TellsSubset};
 
-use rules::{NO_PLACE, SLOT_END, Slot};
+use rules::{NO_PLACE, Slot};
 
 mod walking; // walking.rt: from one slot of a set to the next
 
-pub use walking::Step;
+pub use walking::Slots;
 
 // A set takes so many words of 64 slots.
 pub const WORDS: usize = 16;
@@ -34,13 +34,9 @@ impl SlotSet {
         ensures { result ≡ has self.words slot.0 }
     {
         let n = slot.0;
-        if n < SLOT_END {
-            let i = (n / 64) as usize;
-            let b = n % 64;
-            let w = self.words[i];
-            return (w >> b) % 2 == 1;
-        }
-        false
+        self.words
+            .get((n / 64) as usize)
+            .is_some_and(|word| (*word >> (n % 64)) % 2 == 1)
     }
 
     // The slots of either set.
@@ -49,7 +45,7 @@ impl SlotSet {
     {
         let mut r = self;
         for i in 0..WORDS {
-            r.words[i] = r.words[i] | other.words[i];
+            r.words[i] |= other.words[i];
         }
         r
     }
@@ -60,7 +56,7 @@ impl SlotSet {
     {
         let mut r = self;
         for i in 0..WORDS {
-            r.words[i] = r.words[i] & !other.words[i];
+            r.words[i] &= !other.words[i];
         }
         r
     }
@@ -68,8 +64,7 @@ impl SlotSet {
     pub fn is_empty(self) -> bool
         ensures { TellsEmpty self.words result }
     {
-        let s = self.first();
-        s.slot == SLOT_END
+        self.words == [0; WORDS]
     }
 
     // Whether each slot of the set is in `other`.
@@ -84,8 +79,8 @@ impl SlotSet {
         ensures { result ≡ length (slots_of self.words) }
     {
         let mut n: u32 = 0;
-        for word in 0..WORDS {
-            n += u64::count_ones(self.words[word]);
+        for word in self.words {
+            n += word.count_ones();
         }
         n
     }
@@ -107,22 +102,17 @@ pub fn list_slots(out: &mut [u16], a: SlotSet) -> usize
     ensures { Wrote (slots_of a.words) out.old out.new result }
 {
     let mut at: usize = 0;
-    let mut s = a.first();
-    while s.slot < SLOT_END {
-        out[at] = s.slot;
+    for slot in a.slots() {
+        out[at] = slot;
         at += 1;
-        s = a.after(s);
     }
     at
 }
 
 // The entry that a table has for a slot; 255 past its end.
+// As it is: the C interface; in the tables of a host 255 stands for nobody, and that is what the rules' `no_place` promises past the end.
 pub fn entry_at(table: &[u8], slot: Slot) -> u8
     ensures { result ≡ get_or table.now slot.0 no_place }
 {
-    let i = slot.0 as usize;
-    if i < table.len() {
-        return table[i];
-    }
-    NO_PLACE
+    table.get(slot.0 as usize).copied().unwrap_or(NO_PLACE)
 }

@@ -1,74 +1,57 @@
-// A walk over the slots of a set, in rising order. A step keeps what is left of its word, so that the next slot of the same word is a count of trailing
+// The slots of a set one after another, in rising order. What is left of a word is kept, so that the next slot of the same word is a count of trailing
 // zeros away.
-ghost use Rattle.std.specs.Prelude.{◌≡◌, ◌+◌, ◌*◌, ◌/◌, ◌^◌, ◌≤◌, ◌<◌};
-ghost use Rattle.std.specs.Int.Count.{count_trailing_zeros};
-ghost use Rattle.rules.specs.Constants.{slot_count};
-ghost use Rattle.slots.specs.Walk.{Left, Steps};
+ghost use Rattle.std.specs.Prelude.{◌<◌};
+ghost use Rattle.slots.specs.Set.{word_count};
 
-use crate::{SlotSet, WORDS};
-use rules::SLOT_END;
+use crate::SlotSet;
 
+// The slots of a set that are still to come.
 #[derive(Clone, Copy)]
-pub struct Step {
-    // a slot of the set, or 1024 after the last; a number and no `Slot`, since 1024 is no slot
-    pub slot: u16,
-    // the bits of the slot's word above its own
-    pub left: u64,
-}
-
-// To the lowest bit of what is left of a word, of which the first bit is that of `start`.
-fn step_in(start: u16, left: u64) -> Step
-    requires { (start ≤ slot_count) × (0 < left) }
-    ensures { (result.slot ≡ start + count_trailing_zeros 64 left) × (result.left ≡ left / 2 ^ count_trailing_zeros 64 left / 2) }
-{
-    let t = u64::trailing_zeros(left);
-    let slot = start + t as u16;
-    let above = left >> t >> 1;
-    Step {
-        slot: slot,
-        left: above,
-    }
+pub struct Slots {
+    set: SlotSet,
+    // the word that the next slot is looked for in first
+    word: usize,
+    // the bits of it whose slots are still to come
+    left: u64,
+    ghost within: { word < word_count },
 }
 
 impl SlotSet {
-    // To the lowest slot of the words from word i on.
-    fn step_from(self, i: usize) -> Step
-        ensures { Steps self.words (i * 64) result }
+    ghost use Rattle.std.specs.Prelude.{◌≡◌};
+    ghost use Rattle.slots.specs.Set.{slots_of};
+    ghost use Rattle.slots.specs.Walk.{rest};
+
+    // The slots of the set, in rising order.
+    pub fn slots(self) -> Slots
+        ensures { rest result ≡ slots_of self.words }
     {
-        let mut k = i;
-        while k < WORDS {
-            let word = self.words[k];
-            if word != 0 {
-                return step_in((k * 64) as u16, word);
-            }
-            k += 1;
-        }
-        Step {
-            slot: SLOT_END,
-            left: 0,
+        Slots {
+            set: self,
+            word: 0,
+            left: self.words[0],
         }
     }
+}
 
-    // To the lowest slot.
-    pub fn first(self) -> Step
-        ensures { Steps self.words 0 result }
-    {
-        self.step_from(0)
-    }
+impl Iterator for Slots {
+    ghost use Rattle.std.specs.Iterator.{YieldsFirst, item_count};
+    ghost use Rattle.slots.specs.Walk.{rest};
 
-    // From a slot to the next one; after the last there is none.
-    pub fn after(self, s: Step) -> Step
-        ensures { Left self.words s → Steps self.words (s.slot + 1) result }
-    {
-        if SLOT_END <= s.slot {
-            return Step {
-                slot: SLOT_END,
-                left: 0,
-            };
+    type Item = u16;
+
+    ghost next_gives = { YieldsFirst rest };
+
+    ghost remaining = { item_count rest };
+
+    fn next(&mut self) -> Option<u16> {
+        // As it is: the place in the set is kept from call to call, and a `for` over the words that are left would have to be made anew in each.
+        while self.left == 0 {
+            let word = self.word + 1;
+            self.left = *self.set.words.get(word)?;
+            self.word = word;
         }
-        if s.left != 0 {
-            return step_in(s.slot + 1, s.left);
-        }
-        self.step_from((s.slot / 64) as usize + 1)
+        let left = self.left;
+        self.left = left & (left - 1);
+        Some(self.word as u16 * 64 + left.trailing_zeros() as u16)
     }
 }

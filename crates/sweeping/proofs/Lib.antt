@@ -1,2 +1,4 @@
+pub mod Counting
 pub mod Marking
+pub mod Leaving
 pub mod SweepRows

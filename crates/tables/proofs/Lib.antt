@@ -1,7 +1,7 @@
 pub mod Lists
 pub mod Viewing
 pub mod Telling
-pub mod Replacing
+pub mod Changed
 pub mod Nearness
 pub mod Filling
 pub mod Listing

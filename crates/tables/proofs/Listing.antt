@@ -8,6 +8,7 @@ use mathlib.Core.Path.{◌≡◌, refl, sym, ap, ap₂, ◌∙◌}
 use mathlib.Core.Bool.{Bool, true, false, not, ◌||◌, true≢false}
 use mathlib.Core.List.{List, [], ◌∷◌}
 use lib.ListN.{length, get_or}
+use Rattle.std.proofs.lemmas.Grind.{common_steps}
 use Rattle.rules.specs.Basics.{any, indices, keep, up_to}
 use Rattle.rules.specs.Constants.{slot_count}
 use Rattle.rules.specs.Group.{SlotState, free_slot, assigned, revoking, set_a, set_p}
@@ -52,33 +53,14 @@ module _ (f : ℕ → Bool) where
   unfolding some_slot
   none_of e s h = none_at f slot_count 0 e s (omega arith) (omega arith)
 
-  pub some_by : (s : ℕ) → s < slot_count → f s ≡ true → some_slot f ≡ true
-  some_by s h e = go (some_slot f) refl
-    where
-      go : (x : Bool) → some_slot f ≡ x → x ≡ true
-      go true p = refl
-      go false p = sym (none_of p s h) ∙ e
-
-  pub none_by : ((s : ℕ) → s < slot_count → f s ≡ false) → some_slot f ≡ false
-  none_by h = go (some_slot f) refl
-    where
-      go : (x : Bool) → some_slot f ≡ x → x ≡ false
-      go true p = let r = slot_of p in sym r.2 ∙ h r.0 r.1
-      go false p = refl
-
   -- as a test for no slot tells it of a set that has these slots
   pub some_told : (ws : List ℕ) → length ws ≡ word_count → ((s : ℕ) → has ws s ≡ f s) → (e : Bool) → TellsEmpty ws e → some_slot f ≡ not e
-  some_told ws l is true t = none_by (λ s h. sym (is s) ∙ t.0 refl s)
-  some_told ws l is false t = let w = t.1 refl in some_by w.0 (in_range_lem ws w.0 l w.1) (sym (is w.0) ∙ w.1)
+  some_told ws l is e t = grind (arith, common_steps, slot_of, none_of, is, t.0, t.1, in_range_lem)
 
   -- as the slots of a list pass
   pub some_listed : {A : Type 0} (t : A → Bool) (d : A) (vs : List A) → length vs ≡ slot_count
       → ((s : ℕ) → s < slot_count → f s ≡ t (get_or vs s d)) → any t vs ≡ some_slot f
-  some_listed t d vs len is = go (some_slot f) refl
-    where
-      go : (x : Bool) → some_slot f ≡ x → any t vs ≡ x
-      go true p = let r = slot_of p in any_on d t vs r.0 (omega (arith, len, r.1)) (sym (is r.0 r.1) ∙ r.2)
-      go false p = any_off d t vs (λ i h. let k : i < slot_count = omega (arith, len) in sym (is i k) ∙ none_of p i k)
+  some_listed t d vs len is = grind (arith, common_steps, slot_of, none_of, is, any_on d t vs, any_off d t vs)
 
 -- ---- the list of a set
 
@@ -106,9 +88,6 @@ module _ (t : SlotState → Bool) (vs : List SlotState) (len : length vs ≡ slo
     where
       zero_plus : (n : ℕ) → 0 + n ≡ n
       zero_plus n = omega arith
-
-  pub picks_any : length a.words ≡ word_count → (e : Bool) → TellsEmpty a.words e → any t vs ≡ not e
-  picks_any la e g = some_listed (has a.words) t free_slot vs len is ∙ some_told (has a.words) a.words la (λ s. refl) e g
 
 -- the sets of a place, as the rules list them
 module _ (p : ℕ) (vs : List SlotState) (len : length vs ≡ slot_count) (r : PlaceSets) (g : Gathers p vs r) where

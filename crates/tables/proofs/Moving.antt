@@ -1,10 +1,12 @@
 -- Steps 2 and 3 as one change of each slot (`advanced_moved`), where A or P changed.
 use Rattle.std.specs.Prelude.{if◌then◌else◌}
 use Prim.Native.Nat.{ℕ}
+use native.Mathlib.Omega.{arith}
 use mathlib.Core.Path.{◌≡◌, refl, sym, ap, ◌∙◌}
 use mathlib.Core.Bool.{Bool, true, false, not, ◌&&◌}
 use mathlib.Core.List.{List, map}
 use mathlib.Core.Option.{Option}
+use Rattle.std.proofs.lemmas.Grind.{common_steps}
 use Rattle.rules.specs.Group.{SlotState}
 use Rattle.rules.specs.Effects.{waits, strays, advanced, frees, freed, after_free, revoked, claimed}
 use Rattle.tables.specs.Advances.{Advances}
@@ -30,10 +32,4 @@ module _ (p : ℕ) (vs : List SlotState) (owned : Option (List ℕ)) where
   module _ (r : Advance) (t : Advances p vs owned r) where
     -- the slots are written only if A or P changed
     pub written : (v : List SlotState) → v ≡ (if r.changed then map (moved_by r.frees r.revokes p) vs else vs) → v ≡ advanced p vs owned
-    written v e = go r.changed refl
-      where
-        go : (b : Bool) → r.changed ≡ b → v ≡ advanced p vs owned
-        go true h =
-            e ∙ ap (λ (b : Bool). if b then map (moved_by r.frees r.revokes p) vs else vs) h
-            ∙ sym (advanced_moved r.frees r.revokes (t.moves h) t.frees_is t.revokes_is)
-        go false h = e ∙ ap (λ (b : Bool). if b then map (moved_by r.frees r.revokes p) vs else vs) h ∙ sym (t.unchanged h)
+    written v e = grind (arith, common_steps, advanced_moved r.frees r.revokes, t.moves, t.frees_is, t.revokes_is, t.unchanged)

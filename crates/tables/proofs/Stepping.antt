@@ -11,6 +11,8 @@ use mathlib.Core.Option.{Option, none, some}
 use lib.Dec.{eqb}
 use lib.ListN.{length, get_or, length-map, get_or-eq_default}
 use borrow.Author.Tests.{eq-eqb, ne_eqb, not-true}
+use Rattle.std.proofs.lemmas.List.{get_or-map}
+use Rattle.std.proofs.lemmas.Grind.{common_steps}
 use Rattle.rules.specs.Basics.{any, same}
 use Rattle.rules.specs.Constants.{slot_count, no_place}
 use Rattle.rules.specs.Group.{SlotState, free_slot, assigned, revoking, targeted, set_a, set_p}
@@ -23,29 +25,18 @@ use Rattle.tables.specs.Gathers.{Picks, Gathers}
 use Rattle.tables.specs.Advances.{some_slot, frees_set, waits_on, stray_in, free_in, assigned_after, revoking_after, AdvancesSets, Advances}
 use Rattle.tables.specs.declared.gathering.PlaceSets.{PlaceSets}
 use Rattle.tables.specs.declared.advancing.Advance.{Advance}
-use Rattle.tables.proofs.Lists.{any_ext, any_map, map_at, map_same}
+use Rattle.tables.proofs.Lists.{any_ext, any_map, map_same}
 use Rattle.tables.proofs.Listing.{picks_list, slot_of, none_of, some_listed}
 use Rattle.tables.proofs.Slotwise.{free_if, stray_free, revoke_a, revoke_q, claim_a, claim_q, claim_none, not_yet}
 
 -- the steps keep the number of slots
 pub advanced_length : (p : ℕ) (vs : List SlotState) (owned : Option (List ℕ)) → length (advanced p vs owned) ≡ length vs
 unfolding advanced after_free
-advanced_length p vs owned = go (waits p vs owned) (strays p vs owned) (frees p vs owned)
-  where
-    go : (w s f : Bool)
-        → length (if w then vs else (if s then map (revoked p) (if f then map (freed p) vs else vs) else map (claimed p) (if f then map
-        (freed p) vs else vs))) ≡ length vs
-    go true s f = refl
-    go false true true = length-map (map (freed p) vs) (revoked p) ∙ length-map vs (freed p)
-    go false true false = length-map vs (revoked p)
-    go false false true = length-map (map (freed p) vs) (claimed p) ∙ length-map vs (freed p)
-    go false false false = length-map vs (claimed p)
+advanced_length p vs owned = grind (arith, common_steps, length-map {A = SlotState} {B = SlotState})
 
 -- a test that fails at a flag that is not set
 unset : (x y : Bool) → (x && not y) ≡ false → y ≡ false → x ≡ false
-unset true true e f = f
-unset true false e f = e
-unset false y e f = refl
+unset x y e f = grind (arith, common_steps)
 
 module _ (p : ℕ) (vs : List SlotState) (len : length vs ≡ slot_count) (lt : p < no_place) (a : PlaceSets) (lp : length a.revoking.words ≡ word_count)
     (g : Gathers p vs a) (owned : Option (List ℕ)) where
@@ -91,18 +82,10 @@ module _ (p : ℕ) (vs : List SlotState) (len : length vs ≡ slot_count) (lt : 
   after_so = ap (λ (x : Bool). if x then map (freed p) vs else vs) frees_so
 
   after_length_lem : length (after_free p vs owned) ≡ slot_count
-  after_length_lem = ap length after_so ∙ go (frees_set a owned)
-    where
-      go : (f : Bool) → length (if f then map (freed p) vs else vs) ≡ slot_count
-      go true = length-map vs (freed p) ∙ len
-      go false = len
+  after_length_lem = grind (arith, common_steps, after_so, length-map {A = SlotState} {B = SlotState}, len)
 
   after_at : (s : ℕ) → s < slot_count → get_or (after_free p vs owned) s free_slot ≡ free_if (frees_set a owned) p (at s)
-  after_at s h = ap (λ (x : List SlotState). get_or x s free_slot) after_so ∙ go (frees_set a owned)
-    where
-      go : (f : Bool) → get_or (if f then map (freed p) vs else vs) s free_slot ≡ free_if f p (at s)
-      go true = map_at free_slot (freed p) vs s (omega (arith, len))
-      go false = refl
+  after_at s h = let m = get_or-map (freed p) vs s free_slot free_slot (omega (arith, len)) in grind (arith, common_steps, after_so, m)
 
   strays_so : strays p vs owned ≡ some_slot (stray_in a)
   unfolding strays stray
@@ -173,8 +156,7 @@ module _ (p : ℕ) (vs : List SlotState) (len : length vs ≡ slot_count) (lt : 
     }
       where
         moved : (w y : Bool) → (not w && y) ≡ true → w ≡ false
-        moved true y h = sym h
-        moved false y h = refl
+        moved w y h = grind (arith, common_steps)
 
     by_wait : waits_on a owned ≡ true → Advances p vs owned r
     unfolding advanced assigned_after revoking_after
@@ -193,7 +175,7 @@ module _ (p : ℕ) (vs : List SlotState) (len : length vs ≡ slot_count) (lt : 
       -- each slot, after a change of each
       changed_at : (f : SlotState → SlotState) → advanced p vs owned ≡ map f (after_free p vs owned) → (s : ℕ) → s < slot_count
           → get_or (advanced p vs owned) s free_slot ≡ f (free_if (frees_set a owned) p (at s))
-      changed_at f z s h = rw z (map_at free_slot f (after_free p vs owned) s (omega (arith, after_length_lem)) ∙ ap f (after_at s h))
+      changed_at f z s h = rw z (get_or-map f (after_free p vs owned) s free_slot free_slot (omega (arith, after_length_lem)) ∙ ap f (after_at s h))
 
       by_revoke : some_slot (stray_in a) ≡ true → Advances p vs owned r
       unfolding advanced assigned_after revoking_after

@@ -1,4 +1,4 @@
--- The three tables seen as one list of slots: its length, the slot at an index, a slot stored, another target.
+-- The three tables seen as one list of slots: its length, the slot at an index, another target, and the tables of a fresh group.
 use Prim.Native.Nat.{ℕ, zero, suc, ◌<◌}
 use native.Mathlib.Nat.{le_of_suc-le-suc, not-suc-le-zero, suc_inj}
 use native.Mathlib.Decide.{dec_lt}
@@ -6,12 +6,13 @@ use native.Mathlib.Omega.{arith}
 use mathlib.Core.Path.{◌≡◌, refl, sym, ap, ◌∙◌}
 use mathlib.Core.Bool.{Bool, false}
 use mathlib.Core.List.{List, [], ◌∷◌}
-use lib.ListN.{length, get_or, set, get_or-eq_default}
+use lib.ListN.{length, get_or, replicate, get_or-eq_default}
+use Rattle.std.proofs.lemmas.List.{get_or_default}
 use Rattle.rules.specs.Constants.{slot_count, no_place}
-use Rattle.rules.specs.Group.{SlotState, free_slot}
+use Rattle.rules.specs.Group.{SlotState, free_slot, fresh}
 use Rattle.rules.specs.Effects.{retargeted}
-use Rattle.slots.proofs.Each.{get_d_any}
-use Rattle.tables.specs.View.{view_lists}
+use Rattle.tables.specs.View.{view_lists, slots_in, slot_at, Whole}
+use Rattle.tables.specs.declared.Tables.{Tables}
 
 pub view_length : (ts hs : List ℕ) (ws : List Bool) → length hs ≡ length ts → length ws ≡ length ts → length (view_lists ts hs ws) ≡ length ts
 view_length [] hs ws p q = refl
@@ -26,17 +27,6 @@ view_at (t ∷ ts) [] ws i d p q r = absurd (not-suc-le-zero q)
 view_at (t ∷ ts) (h ∷ hs) [] i d p q r = absurd (not-suc-le-zero r)
 view_at (t ∷ ts) (h ∷ hs) (w ∷ ws) zero d p q r = refl
 view_at (t ∷ ts) (h ∷ hs) (w ∷ ws) (suc i) d p q r = view_at ts hs ws i d (le_of_suc-le-suc p) (le_of_suc-le-suc q) (le_of_suc-le-suc r)
-
-pub view_set : (ts hs : List ℕ) (ws : List Bool) (i : ℕ) (s : SlotState) → view_lists (set ts i s.target) (set hs i s.holder) (set ws i
-    s.waiting) ≡ set (view_lists ts hs ws) i s
-view_set [] hs ws i s = refl
-view_set (t ∷ ts) [] ws zero s = refl
-view_set (t ∷ ts) [] ws (suc i) s = refl
-view_set (t ∷ ts) (h ∷ hs) [] zero s = refl
-view_set (t ∷ ts) (h ∷ hs) [] (suc i) s = refl
-view_set (t ∷ ts) (h ∷ hs) (w ∷ ws) zero s = refl
-view_set (t ∷ ts) (h ∷ hs) (w ∷ ws) (suc i) s =
-    ap (λ (l : List SlotState). record { target = t; holder = h; waiting = w } ∷ l) (view_set ts hs ws i s)
 
 pub view_retargeted : (es ts hs : List ℕ) (ws : List Bool) → length es ≡ length ts → view_lists es hs ws ≡ retargeted (view_lists ts hs ws) es
 unfolding retargeted
@@ -62,7 +52,24 @@ module _ (ts hs : List ℕ) (ws : List Bool) (nt : length ts ≡ slot_count) (nh
   view_holder s = go (dec_lt s slot_count)
     where
       go : Dec (s < slot_count) → (get_or (view_lists ts hs ws) s free_slot).holder ≡ get_or hs s no_place
-      go (yes h) = ap (λ (x : SlotState). x.holder) (view_slot s h free_slot) ∙ get_d_any hs s 0 no_place (omega (arith, nh))
+      go (yes h) = ap (λ (x : SlotState). x.holder) (view_slot s h free_slot) ∙ get_or_default hs s 0 no_place (omega (arith, nh))
       go (no h) =
           ap (λ (x : SlotState). x.holder) (get_or-eq_default (view_lists ts hs ws) free_slot (omega (arith, view_slots)))
           ∙ sym (get_or-eq_default hs no_place (omega (arith, nh)))
+
+module _ (t : Tables) (whole : Whole t) where
+  pub slots_length : length (slots_in t) ≡ slot_count
+  slots_length = view_slots t.target t.holder t.waiting whole.0 whole.1 whole.2
+
+  pub slot_in : (s : ℕ) → s < slot_count → (d : SlotState) → get_or (slots_in t) s d ≡ slot_at t s
+  slot_in = view_slot t.target t.holder t.waiting whole.0 whole.1 whole.2
+
+view_replicated : (n t h : ℕ) (w : Bool) → view_lists (replicate n t) (replicate n h) (replicate n w) ≡ replicate n (record { target = t; holder = h; waiting = w })
+view_replicated zero t h w = refl
+view_replicated (suc n) t h w =
+    ap (λ (l : List SlotState). record { target = t; holder = h; waiting = w } ∷ l) (view_replicated n t h w)
+
+-- the tables of a fresh group
+pub view_fresh : view_lists (replicate slot_count no_place) (replicate slot_count no_place) (replicate slot_count false) ≡ (fresh 0).slots
+unfolding fresh free_slot
+view_fresh = view_replicated slot_count no_place no_place false

@@ -1,6 +1,8 @@
 -- What steps 2 and 3 of an ordinary heartbeat come to: on the sets of a place, as `PlaceSets::advance` decides it; and for the member at place p, as the rules
 -- say it, from the slots vs before them. Both go by the list that may be given.
 use Rattle.std.specs.Prelude.{ℕ, ◌≡◌, Bool, true, false, not, ◌&&◌, ◌||◌, List, if◌then◌else◌}
+use Rattle.std.specs.Prelude as P
+use Rattle.std.specs.Borrow.{Bor}
 use Rattle.std.proofs.Math.Option.{Option, none, some}
 use Rattle.rules.specs.Basics.{any, same, up_to}
 use Rattle.rules.specs.Constants.{slot_count}
@@ -11,9 +13,13 @@ use Rattle.tables.specs.Gathers.{Picks}
 use Rattle.tables.specs.declared.gathering.PlaceSets.{PlaceSets}
 use Rattle.tables.specs.declared.advancing.Advance.{Advance}
 
--- a list that may be given
+-- a list that may be given, as the rules have it
 abbrev pub owned_of : Bool → List ℕ → Option (List ℕ)
 owned_of given list = if given then some list else none
+
+abbrev pub listed : P.Option (Bor (List ℕ)) → Option (List ℕ)
+listed P.None = none
+listed (P.Some list) = some list.now
 
 -- ---- on the sets A, P, M of a place, and the slots of M that nobody holds
 
@@ -29,6 +35,11 @@ frees_set a (some l) = some_slot (has a.revoking.words) && not (any (has a.revok
 -- 'Otherwise A, P and E stay'
 unfoldable pub waits_on : PlaceSets → Option (List ℕ) → Bool
 waits_on a owned = some_slot (has a.revoking.words) && not (frees_set a owned)
+
+-- what step 2 comes to: nothing where the place waits, and else whether P is freed
+abbrev pub FreesSet : PlaceSets → Option (List ℕ) → P.Option Bool → Type 0
+FreesSet a owned P.None = waits_on a owned ≡ true
+FreesSet a owned (P.Some frees) = (waits_on a owned ≡ false) × (frees ≡ frees_set a owned)
 
 -- step 3: slot s is in A and outside M
 abbrev pub stray_in : PlaceSets → ℕ → Bool

@@ -1,12 +1,17 @@
 -- What becomes of a slot of the tables.
-use Rattle.std.specs.Prelude.{ℕ, Bool, List, map, if◌then◌else◌}
+use Rattle.std.specs.Prelude.{ℕ, Bool, false, List, map, get_or, if◌then◌else◌}
 use Rattle.rules.specs.Group.{SlotState}
 use Rattle.rules.specs.Effects.{freed, revoked, claimed}
+use Rattle.tables.specs.declared.Tables.{Tables}
 use Rattle.tables.specs.declared.changing.Entry.{Entry}
 
 -- the slot that an entry of each table stands for
 abbrev pub view_entry : Entry → SlotState
 view_entry e = record { target = e.target; holder = e.holder; waiting = e.waiting }
+
+-- the entries for slot s
+abbrev pub entry_of : Tables → ℕ → Entry
+entry_of t s = record { target = get_or t.target s 0; holder = get_or t.holder s 0; waiting = get_or t.waiting s false }
 
 -- step 3, after P is freed or not: strays are revoked, or else what is free is claimed
 unfoldable pub moved_by : Bool → Bool → ℕ → SlotState → SlotState

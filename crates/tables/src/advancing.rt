@@ -1,10 +1,9 @@
 // Steps 2 and 3 of an ordinary heartbeat, on the sets of a place.
-ghost use Rattle.std.specs.Prelude.{◌≡◌, not, ◌&&◌};
+ghost use Rattle.std.specs.Prelude.{◌≡◌, false, not, MatchOption};
 ghost use Rattle.rules.specs.Basics.{any};
 ghost use Rattle.slots.specs.Set.{has};
-ghost use Rattle.tables.specs.Advances.{owned_of, AdvancesSets};
+ghost use Rattle.tables.specs.Advances.{listed, FreesSet, AdvancesSets};
 
-use crate::bools::{both, either};
 use crate::gathering::PlaceSets;
 use rules::Slot;
 use slots::SlotSet;
@@ -25,69 +24,63 @@ pub struct Advance {
 fn meets(set: SlotSet, list: &[u16]) -> bool
     ensures { result ≡ any (has set.words) list.now }
 {
-    let mut i: usize = 0;
-    while i < list.len() {
-        let s = list[i];
-        if set.contains(Slot(s)) {
-            return true;
-        }
-        i += 1;
-    }
-    false
+    list.iter().any(|s| set.contains(Slot(*s)))
 }
 
-// Whether P is not empty, and a list is given that has no slot of P.
-fn frees_all(revoking: SlotSet, none: bool, given: bool, owned: &[u16]) -> bool
-    ensures { result ≡ (given && (not none && not (any (has revoking.words) owned.now))) }
+// Whether a list is given that has no slot of the set.
+fn lists_none(set: SlotSet, owned: Option<&[u16]>) -> bool
+    ensures { MatchOption owned.entry (result ≡ false) (λ list. result ≡ not (any (has set.words) list.now)) }
 {
-    if given {
-        if none {
-            return false;
-        }
-        return !meets(revoking, owned);
-    }
-    false
+    owned.is_some_and(|list| !meets(set, list))
 }
 
 impl PlaceSets {
-    // Steps 2 and 3 on the sets of a place. The list is looked at only if `given`.
-    pub fn advance(self, given: bool, owned: &[u16]) -> Advance
-        ensures { AdvancesSets self (owned_of given owned.now) result }
+    // Step 2: whether P is freed, or `None` where the place waits for slots of P to be given back.
+    fn frees(self, owned: Option<&[u16]>) -> Option<bool>
+        ensures { FreesSet self (listed owned.entry) result }
     {
-        let assigned = self.assigned;
-        let revoking = self.revoking;
-        let target = self.target;
-        let claimable = self.claimable;
-        let none = revoking.is_empty();
-        let frees = frees_all(revoking, none, given, owned);
-        if both(!none, !frees) {
+        if self.revoking.is_empty() {
+            return Some(false);
+        }
+        if lists_none(self.revoking, owned) {
+            return Some(true);
+        }
+        None
+    }
+
+    // Steps 2 and 3 on the sets of a place, by the list that may be given.
+    pub fn advance(self, owned: Option<&[u16]>) -> Advance
+        ensures { AdvancesSets self (listed owned.entry) result }
+    {
+        let Some(frees) = self.frees(owned) else {
             return Advance {
-                assigned: assigned,
-                revoking: revoking,
+                assigned: self.assigned,
+                revoking: self.revoking,
                 waits: true,
                 frees: false,
                 revokes: false,
                 changed: false,
             };
-        }
-        let strays = assigned.difference(target);
+        };
+        let strays = self.assigned.difference(self.target);
         if strays.is_empty() {
-            let regained = revoking.difference(revoking.difference(target));
-            let claimed = claimable.union(regained);
+            let outside = self.revoking.difference(self.target);
+            let regained = self.revoking.difference(outside);
+            let claimed = self.claimable.union(regained);
             return Advance {
-                assigned: assigned.union(claimed),
+                assigned: self.assigned.union(claimed),
                 revoking: SlotSet::empty(),
                 waits: false,
-                frees: frees,
+                frees,
                 revokes: false,
-                changed: either(frees, !claimed.is_empty()),
+                changed: frees | !claimed.is_empty(),
             };
         }
         Advance {
-            assigned: assigned.difference(strays),
+            assigned: self.assigned.difference(strays),
             revoking: strays,
             waits: false,
-            frees: frees,
+            frees,
             revokes: true,
             changed: true,
         }

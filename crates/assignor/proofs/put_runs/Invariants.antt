@@ -1,5 +1,4 @@
 -- The runs of the subscribers that are left are to come (`Writing`); each goes where the last ended. Assumes nothing.
-use Prim.Native.Nat.{◌-◌, ◌≤◌}
 use mathlib.Core.List.{[], ◌∷◌}
 use lib.ListN.{length, drop}
 use Rattle.rules.specs.Assignor.{runs}
@@ -7,7 +6,4 @@ use Rattle.numbers.proofs.Writing.{Writing}
 use Rattle.assignor.proofs.put_runs.Given as goal
 
 abbrev pub invariant-loop-i : goal.invariant-loop-i
-invariant-loop-i l = (l.i ≤ length l.subscribers) × Writing (runs l.n (length l.subscribers) 0 l.subscribers) l.initial.out l.out l.at (runs l.n (length l.subscribers) l.i (drop l.i l.subscribers) ∷ [])
-
-abbrev pub decreases-loop-i : goal.decreases-loop-i
-decreases-loop-i l = length l.subscribers - l.i
+invariant-loop-i l = Writing (runs l.n (length l.subscribers) 0 l.subscribers) l.initial.out l.out l.at (runs l.n (length l.subscribers) l.i (drop l.i l.subscribers) ∷ [])

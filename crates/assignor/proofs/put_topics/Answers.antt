@@ -1,13 +1,12 @@
 use Prim.Native.Nat.{ℕ, ◌+◌, ◌<◌, min}
 use native.Mathlib.Omega.{arith}
-use mathlib.Core.Path.{◌≡◌, refl, sym, ◌∙◌}
+use mathlib.Core.Path.{◌≡◌, ◌∙◌}
 use mathlib.Core.List.{List, [], ◌∷◌, append-nil}
 use lib.ListN.{length, get_or, take}
-use lib.Seq.{length-take-le}
 use Rattle.rules.specs.Constants.{max_partitions, topic_count}
 use Rattle.rules.specs.Assignor.{padded, runs}
 use Rattle.numbers.specs.Buffer.{Wrote}
-use Rattle.numbers.proofs.Writing.{Writing, begin, cut, to_go₁, in_range_lem, same_len, room, put_at_lem, part_over, ended}
+use Rattle.numbers.proofs.Writing.{Writing, begin, cut, to_go₁, room, put_at_lem, part_over, ended}
 use Rattle.assignor.specs.Shares.{all_entries, among, entries_of}
 use Rattle.assignor.proofs.Assigning.{From, all_long, entries_long, from_end, from_next, from_start, wrote_all}
 use Rattle.assignor.proofs.put_topics.Goals as goal
@@ -26,34 +25,14 @@ module _ (order subscriptions counts : List ℕ) where
 
 pub loop-t-init : goal.loop-t-init
 loop-t-init c =
-    let a = c.args in (
-      omega arith,
-      refl,
-      begin _ _ _ (append-nil _ ∙ from_start a.order.now a.subscriptions.now a.counts.now) (omega (arith, all_long a.order.now a.subscriptions.now a.counts.now, c.requires.1)),
-    )
-
-pub list_subscribers-k-requires : goal.list_subscribers-k-requires
-list_subscribers-k-requires c = (c.requires.0, omega arith)
-
-pub slice_bounds-put_topic-count : goal.slice_bounds-put_topic-count
-slice_bounds-put_topic-count c = omega (arith, in_range_lem c.loop-t.invariant.2)
-
-pub slice_bounds-put_topic-start : goal.slice_bounds-put_topic-start
-slice_bounds-put_topic-start c = omega (arith, in_range_lem c.loop-t.invariant.2)
-
-pub slice_bounds-list-end : goal.slice_bounds-list-end
-slice_bounds-list-end c = let w = c.list_subscribers-k.ensures in omega (arith, w.most, w.size)
-
-pub slice_bounds-put_topic-end-in-loop-t : goal.slice_bounds-put_topic-end-in-loop-t
-slice_bounds-put_topic-end-in-loop-t c =
-    let s = c.list_subscribers-k in
-    sym (length-take-le s.result s.new.list (omega (arith, s.ensures.most, s.ensures.size)))
+    let a = c.args in
+    begin _ _ _ (append-nil _ ∙ from_start a.order.now a.subscriptions.now a.counts.now) (omega (arith, all_long a.order.now a.subscriptions.now a.counts.now))
 
 pub put_topic-at-requires : goal.put_topic-at-requires
 put_topic-at-requires c =
     let a = c.args in
     let l = c.loop-t in
-    let s = turn a.order.now a.subscriptions.now a.counts.now a.out.now l.out l.at l.t (omega arith) l.invariant.2 in
+    let s = turn a.order.now a.subscriptions.now a.counts.now a.out.now l.out l.at l.t (omega arith) l.invariant in
     (omega (arith, c.partitions_of-n.ensures), omega (arith, room s, entries_long a.order.now a.subscriptions.now a.counts.now l.t))
 
 pub overflow_add-at : goal.overflow_add-at
@@ -61,7 +40,7 @@ overflow_add-at c =
     let a = c.args in
     let l = c.loop-t in
     let k = c.list_subscribers-k in
-    let s = turn a.order.now a.subscriptions.now a.counts.now a.out.now l.out l.at l.t (omega arith) l.invariant.2 in
+    let s = turn a.order.now a.subscriptions.now a.counts.now a.out.now l.out l.at l.t (omega arith) l.invariant in
     let p = stored a.order.now a.subscriptions.now a.counts.now k.new.list _ _ l.t k.result _ _ c.partitions_of-n.ensures k.ensures.front c.put_topic-at.ensures in
     omega (arith, to_go₁ s, s.fits, p.count)
 
@@ -70,16 +49,13 @@ loop-t-preserved c =
     let a = c.args in
     let l = c.loop-t in
     let k = c.list_subscribers-k in
-    let s = turn a.order.now a.subscriptions.now a.counts.now a.out.now l.out l.at l.t (omega arith) l.invariant.2 in
+    let s = turn a.order.now a.subscriptions.now a.counts.now a.out.now l.out l.at l.t (omega arith) l.invariant in
     let p = stored a.order.now a.subscriptions.now a.counts.now k.new.list _ _ l.t k.result _ _ c.partitions_of-n.ensures k.ensures.front c.put_topic-at.ensures in
-    (omega arith, k.ensures.size, put_at_lem s (part_over _ _ _ _ _ p))
-
-pub shape_of-out : goal.shape_of-out
-shape_of-out c = same_len c.loop-t.invariant.2
+    put_at_lem s (part_over _ _ _ _ _ p)
 
 pub returns : goal.returns
 returns c =
     let a = c.args in
     let l = c.loop-t in
-    wrote_all (ended l.invariant.2 (append-nil _ ∙ from_end a.order.now a.subscriptions.now a.counts.now l.t (omega arith)))
-    (omega (arith, all_long a.order.now a.subscriptions.now a.counts.now, c.requires.1))
+    wrote_all (ended l.invariant (append-nil _ ∙ from_end a.order.now a.subscriptions.now a.counts.now l.t (omega arith)))
+    (omega (arith, all_long a.order.now a.subscriptions.now a.counts.now))

@@ -1,15 +1,16 @@
--- `coordinator::install` meets its contract, which is that of `installing::install`: an epoch that is passed on is the same number.
-use lib.IntN.{ℤ}
-use mathlib.Core.Path.{ap, ◌∙◌}
-use mir.Facts.{to_z-of_z}
-use Rattle.rules.specs.Event.{install, with_rule}
+-- The epoch goes on as its bits, which read back as the epoch.
+use Rattle.std.proofs.Common.{ℤ, ap, ◌∙◌}
+use Rattle.std.proofs.Math.Facts.{to_z-of_z}
+use Rattle.rules.specs.Event as E
 use Rattle.rules.specs.Step.{step}
-use Rattle.group.specs.Parts.{view_target_parts}
+use Rattle.group.specs.View.{view}
+use Rattle.events.specs.Outcomes.{all_but_target}
+use Rattle.coordinator.proofs.ByKind.{handed_on}
 use Rattle.coordinator.proofs.install.Goals as goal
 
 pub returns : goal.returns
 returns c = λ l.
-    let s = c in
-    let a = s.args in
+    let a = c.args in
     let o = c.install.ensures l in
-    (o.0, λ rest. o.1 rest ∙ ap (λ (z : ℤ). step (view_target_parts rest (record { head = a.head.now; members = a.members.now; counts = a.topic_counts.now; target = a.target.now })) (install with_rule z a.entries.now) a.records.now l) (to_z-of_z s.ranges.epoch))
+    handed_on all_but_target _ _ _ _ (λ g. step g (E.install E.with_rule a.epoch a.entries.now) a.records.now l) c.into.ensures
+    (o.0, o.1, o.2 ∙ ap (λ (z : ℤ). step (view a.group.now) (E.install E.with_rule z a.entries.now) a.records.now l) (to_z-of_z c.ranges.epoch))

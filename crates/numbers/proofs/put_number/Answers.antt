@@ -1,23 +1,13 @@
 use mathlib.Core.Path.{refl}
-use mathlib.Core.List.{append-nil}
 use native.Mathlib.Omega.{arith}
-use lib.ListN.{length-set}
 use Rattle.rules.proofs.Number.{number_small, number_more, number_pos}
-use Rattle.numbers.proofs.Writing.{begin, to_go₁, same_len, put_one, ended}
+use Rattle.numbers.proofs.Writing.{to_go₁, same_len, put_one, ended}
 use Rattle.numbers.proofs.put_number.Goals as goal
-
-pub loop-rest-init : goal.loop-rest-init
-loop-rest-init c = begin _ _ _ (append-nil _) c.requires
 
 pub bounds-buf-at : goal.bounds-buf-at
 bounds-buf-at c =
     let s = c.loop-rest.invariant in
     omega (arith, to_go₁ s, same_len s, s.fits, number_pos c.loop-rest.rest)
-
-pub overflow_add-at : goal.overflow_add-at
-overflow_add-at c =
-    let s = c.loop-rest.invariant in
-    omega (arith, to_go₁ s, s.fits, number_pos c.loop-rest.rest)
 
 pub loop-rest-preserved : goal.loop-rest-preserved
 loop-rest-preserved c = put_one (rw (number_more c.loop-rest.rest c.loop-rest-test.true) at c.loop-rest.invariant)
@@ -26,14 +16,6 @@ pub bounds-buf-at-2 : goal.bounds-buf-at-2
 bounds-buf-at-2 c =
     let s = c.loop-rest.invariant in
     omega (arith, to_go₁ s, same_len s, s.fits, number_pos c.loop-rest.rest)
-
-pub overflow_add-result : goal.overflow_add-result
-overflow_add-result c =
-    let s = c.loop-rest.invariant in
-    omega (arith, to_go₁ s, s.fits, number_pos c.loop-rest.rest)
-
-pub shape_of-buf : goal.shape_of-buf
-shape_of-buf c = simp length-set (same_len c.loop-rest.invariant)
 
 pub returns : goal.returns
 returns c = ended (put_one (rw (number_small c.loop-rest.rest c.loop-rest-test.false) at c.loop-rest.invariant)) refl

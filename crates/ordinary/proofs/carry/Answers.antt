@@ -1,87 +1,77 @@
--- The size and the count decide whether there is room; otherwise each part of the outcome is that of the plan's effect (`Carrying`). Assumes nothing.
-use native.Mathlib.Omega.{arith}
-use mathlib.Core.Path.{◌≡◌, refl, ap, ◌∙◌}
-use mathlib.Core.Bool.{false}
-use mathlib.Core.List.{List}
-use mathlib.Core.Option.{Option, some}
-use lib.ListN.{length, set}
+-- The count and the store decide whether there is room; otherwise each part of the outcome is that of the plan's effect (`Carrying`). Assumes nothing.
+use Rattle.std.specs.Prelude.{set}
+use Rattle.std.proofs.Common.{◌≡◌, ℕ, ◌<◌, ◌≤◌, List, length, refl, ap, ◌∙◌, arith, lt-ltb, ltb}
+use Rattle.std.proofs.Math.Option.{some}
 use Rattle.rules.specs.Constants.{heartbeat_interval}
-use Rattle.rules.specs.Group.{Topic}
+use Rattle.rules.specs.Group as G
 use Rattle.rules.specs.Records.{all_bytes}
-use Rattle.rules.specs.Refusals.{zero_id}
+use Rattle.rules.specs.Refusals.{first_of, zero_id}
 use Rattle.rules.specs.Effects.{Effect}
+use Rattle.rules.specs.Step.{carry_out, too_little_room}
 use Rattle.rules.specs.declared.Answer.TheVariants.{Assigned}
+use Rattle.rules.specs.declared.Place.{Place}
+use Rattle.rules.specs.declared.Refusal.TheVariants.{Room}
+use Rattle.rules.proofs.Lists.{or_true}
+use Rattle.records.specs.Storing.{ordinary_batch}
+use Rattle.records.specs.declared.batches.OrdinaryBatch.{OrdinaryBatch}
 use Rattle.group.specs.Columns.{view_members}
-use Rattle.group.specs.Parts.{Parts, parts, view_parts}
-use Rattle.group.specs.View.{seated, view_with}
+use Rattle.group.specs.View.{view, seated}
+use Rattle.group.specs.declared.Group.{Group}
 use Rattle.group.specs.declared.Seat.{Seat}
-use Rattle.events.specs.Outcomes.{took}
-use Rattle.events.proofs.Carrying.{same_refused, no_room_records, no_room_list, carried_out}
-use Rattle.events.proofs.Lent.{parts_changed}
-use Rattle.ordinary.specs.Plans.{planned}
-use Rattle.ordinary.proofs.carry.Lts as lts
-use Rattle.ordinary.proofs.carry.Reads as reads
-use Rattle.ordinary.proofs.carry.Tie as tie
+use Rattle.events.specs.Outcomes.{took, carried}
+use Rattle.events.proofs.Carrying.{denied, refusal, carried_out}
+use Rattle.events.proofs.Ending.{no_room}
+use Rattle.events.proofs.Lent.{group_changed}
+use Rattle.ordinary.specs.Plans.{batch_of, epoch_by, planned}
+use Rattle.ordinary.specs.declared.plan.Plan.{Plan}
 use Rattle.ordinary.proofs.carry.Goals as goal
 
-abbrev had : (lts.Start tie.the-claims reads.Pre reads.Post) → Parts
-had c = let a = c.args in parts a.head.now a.members.now a.target.now a.holder.now a.waiting.now
-
-abbrev effect : List (Option Topic) → (lts.Start tie.the-claims reads.Pre reads.Post) → Effect
-effect ts c = let a = c.args in planned (view_parts ts (had c)) a.p a.tick a.k
-
-size_is : (ts : List (Option Topic)) (c : (lts.After-ordinary_records_len tie.the-claims reads.Pre reads.Post)) → c.ordinary_records_len-size.result ≡ length (all_bytes (effect ts c.before.before.before.before.before.before.before.before).records)
-unfolding planned
-size_is ts c = c.ordinary_records_len-size.ensures.0
-
-count-is : (ts : List (Option Topic)) (c : (lts.After-count tie.the-claims reads.Pre reads.Post)) → c.count-count.result ≡ length (effect ts c.before.before.before.before.before.before.before.before.before.before).told
-unfolding planned
-count-is ts c = c.count-count.ensures
-
--- the parts after it stand for the group of the plan's effect
-group-is : (c : (lts.After-follow tie.the-claims reads.Pre reads.Post)) (ts : List (Option Topic)) → let x = c in let a = x.args in let t = c.follow.new in zero_id a.k.member.id ≡ false
-    → view_parts ts (parts (set (set a.head.now 0 a.k.epoch) 2 a.tick) c.put.new.members t.target t.holder t.waiting) ≡ (effect ts x.before.before.before.before.before.before.before.before.before.before.before.before.before.before.before.before.before.before.before.before.before.before.before.before.before.before).group
-unfolding planned view_parts view_with
-group-is c ts real =
-    let x = c.before.before.before.before.before.before.before.before.before.before.before.before.before.before.before.before.before.before.before.before.before.before.before.before.before.before in
-    let a = x.args in
-    let t = c.follow.new in
-    let seat = c.seat.ensures in
-    parts_changed ts (had x) (parts (set (set a.head.now 0 a.k.epoch) 2 a.tick) c.put.new.members t.target t.holder t.waiting) a.k.epoch a.tick c.whole.ensures.head_long refl
-    (c.put.ensures (ap (λ (s : Seat). zero_id s.id) seat ∙ real) ∙ ap (λ (s : Seat). set (view_members a.members.now) a.p.0 (some (seated s))) seat) c.follow.ensures
-
-pub returns-then-records-size : goal.returns-then-records-size
-unfolding planned
-returns-then-records-size c = λ real.
-    let a = c.args in
-    let lent = parts a.head.now a.members.now a.target.now a.holder.now a.waiting.now in (
-      same_refused c.refused.ensures lent,
-      λ ts.
-          let f = planned (view_parts ts lent) a.p a.tick a.k in
-          let size : c.ordinary_records_len-size.result ≡ length (all_bytes f.records) = c.ordinary_records_len-size.ensures.0 in
-          no_room_records f a.records.now a.list.now (view_parts ts lent) (omega (arith, size, c.if-records-size.true)) c.refused.ensures,
-    )
+-- a list that is too short is refused alike, whatever the buffer
+list_short : (f : Effect) (b l : List ℕ) (g : G.Group) → length l < length f.told → carried g f b l ≡ denied Room g b l
+unfolding carried carry_out first_of too_little_room
+list_short f b l g h = rw (or_true (ltb (length b) (length (all_bytes f.records))) _ (lt-ltb _ _ h))
 
 pub returns-then-list-count : goal.returns-then-list-count
+unfolding planned
 returns-then-list-count c = λ real.
-    let x = c.before.before.before.before.before.before.before.before.before.before.before.before.before in
-    let a = x.args in (
-      same_refused c.refused-then-list-count.ensures (had x),
-      λ ts. no_room_list (effect ts x) a.records.now a.list.now (view_parts ts (had x)) (omega (arith, size_is ts c.before.before.before.before.before, c.if-records-size.false)) (omega (arith, count-is ts c.before.before.before, c.if-list-count.true)) c.refused-then-list-count.ensures,
-    )
+    let a = c.args in
+    let g = view a.group.now in
+    let f = planned g a.p a.tick a.k.now in
+    let short : length a.list.now < length f.told = omega (arith, c.count-count.ensures, c.if-list-count.true) in
+    refusal (list_short f a.records.now a.list.now g short)
+
+-- the records that are stored are those of the plan's effect
+stored : (k : Plan) (p : Place) (g e : ℕ) (x : OrdinaryBatch) → x ≡ batch_of k p e → e ≡ epoch_by k g → ordinary_batch x ≡ ordinary_batch (batch_of k p (epoch_by k g))
+stored k p g e x h q = ap ordinary_batch (h ∙ ap (batch_of k p) q)
+
+pub returns-in_err-written : goal.returns-in_err-written
+unfolding planned view
+returns-in_err-written c = λ real.
+    let a = c.args in
+    let g = view a.group.now in
+    let f = planned g a.p a.tick a.k.now in
+    let b = stored a.k.now a.p a.group.now.head.epoch _ _ c.batch-batch.ensures c.epoch_after-epoch.ensures in
+    no_room a.group.now a.records.now a.list.now f b refl c.from_residual.result c.from_residual.ensures.1 c.in_err-written.ensures
 
 pub returns : goal.returns
-unfolding planned
+unfolding planned view
 returns c = λ real.
-    let x = c.before.before.before.before.before.before.before.before.before.before.before.before.before.before.before.before.before.before.before.before.before.before.before.before.before.before.before.before in
-    let a = x.args in
-    let t = c.follow.new in
-    let put = c.put_ordinary_records-written in
-    let told = c.list_slots in
-    let after = parts (set (set a.head.now 0 a.k.epoch) 2 a.tick) c.put.new.members t.target t.holder t.waiting in (
+    let a = c.args in
+    let m = a.k.now.member in
+    let g = view a.group.now in
+    let f = planned g a.p a.tick a.k.now in
+    let b = stored a.k.now a.p a.group.now.head.epoch _ _ c.batch-batch.ensures c.epoch_after-epoch.ensures in
+    let s = rw b at c.in_ok-written.ensures in
+    let n = c.count-count.ensures in
+    let seat = c.seat.ensures in
+    let e = c.epoch_after-epoch.ensures in
+    let room : length f.told ≤ length a.list.now = omega (arith, n, c.if-list-count.false) in
+    let members = c.put.ensures (ap (λ (x : Seat). zero_id x.id) seat ∙ real) ∙ ap (λ (x : Seat). set (view_members a.group.now.members.cells) a.p.0 (some (seated x))) seat in
+    let after : Group = record { head = record { epoch = c.epoch_after-epoch.result; target_epoch = a.group.now.head.target_epoch; tick = a.tick }; members = c.put.new.self; topics = a.group.now.topics; tables = c.follow.new.self } in
+    let head : after.head ≡ record { epoch = epoch_by a.k.now a.group.now.head.epoch; target_epoch = a.group.now.head.target_epoch; tick = a.tick } = λ i. record { epoch = e i; target_epoch = a.group.now.head.target_epoch; tick = a.tick } in
+    let group = group_changed a.group.now after (epoch_by a.k.now a.group.now.head.epoch) a.tick head refl members c.follow.ensures in (
       tt,
-      λ ts.
-          (λ i. took (record { answer = Assigned (record { epoch = a.k.member.epoch; interval = heartbeat_interval; count = count-is ts c.before.before.before.before.before.before.before.before.before.before.before.before.before.before.before.before.before.before i }); written = put.result }) (view_parts ts after) put.new.buf told.new.out)
-          ∙ carried_out (effect ts x) a.records.now a.list.now (view_parts ts (had x)) (view_parts ts after)
-          (omega (arith, size_is ts c.before.before.before.before.before.before.before.before.before.before.before.before.before.before.before.before.before.before.before.before, c.if-records-size.false)) (omega (arith, count-is ts c.before.before.before.before.before.before.before.before.before.before.before.before.before.before.before.before.before.before, c.if-list-count.false)) (group-is c.before.before ts real) put.ensures told.ensures.bytes,
+      refl,
+      (λ i. took (record { answer = Assigned (record { epoch = m.epoch; interval = heartbeat_interval; count = n i }); written = c.in_ok-written.written }) (view after) c.store.new.buf c.list_slots.new.out)
+          ∙ carried_out f a.records.now a.list.now g (view after) s.0 room group s.1 c.list_slots.ensures.bytes,
     )

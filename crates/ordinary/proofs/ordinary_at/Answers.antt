@@ -1,87 +1,73 @@
 -- The plan is the rules', so that its effect is; row 1002 is tried on what it raises. Assumes nothing.
-use mathlib.Core.Path.{◌≡◌, refl, sym, ap, ◌∙◌, subst}
-use mathlib.Core.Bool.{false}
-use mathlib.Core.List.{List, []}
-use mathlib.Core.Option.{Option}
+use Rattle.std.specs.Prelude.{Some, [], List}
+use Rattle.std.proofs.Common.{◌≡◌, ℕ, Bool, false, sym, ap, ◌∙◌, subst}
+use Rattle.std.proofs.Math.Option.{Option}
 use Rattle.rules.specs.Basics.{any, default}
-use Rattle.rules.specs.Event.{Request}
-use Rattle.rules.specs.Group.{Member, Topic}
+use Rattle.rules.specs.Group.{Member}
 use Rattle.rules.specs.Refusals.{zero_id, not_held_by}
 use Rattle.rules.specs.Effects.{Effect, member_after}
-use Rattle.group.specs.Parts.{Parts, parts, view_parts}
-use Rattle.group.specs.View.{view_with}
+use Rattle.rules.specs.declared.Place.{Place}
+use Rattle.tables.specs.Advances.{listed}
+use Rattle.tables.specs.Places.{holder_not}
+use Rattle.tables.specs.View.{slots_in}
+use Rattle.group.specs.Columns.{numbers_at}
+use Rattle.group.specs.View.{view}
+use Rattle.group.specs.declared.Group as D
 use Rattle.group.specs.declared.Seat.{Seat}
-use Rattle.events.specs.Outcomes.{request_of, carried}
-use Rattle.events.proofs.Carrying.{took_refused, same_refused}
-use Rattle.ordinary.specs.Plans.{view_sender, sender_at, Sends, PlanIs}
-use Rattle.ordinary.specs.declared.plan.Sender.{Sender}
+use Rattle.events.specs.declared.Request as E
+use Rattle.events.specs.Outcomes.{carried}
+use Rattle.events.proofs.Carrying.{refusal}
+use Rattle.ordinary.specs.Plans.{asked, view_sender, sender_at, Sends, Plans, PlanIs}
+use Rattle.ordinary.specs.declared.plan.Plan.{Plan}
 use Rattle.ordinary.proofs.OrdinaryRows.{row_unheld, row_end, row_room, planned_is}
-use Rattle.ordinary.proofs.ordinary_at.Lts as lts
-use Rattle.ordinary.proofs.ordinary_at.Reads as reads
-use Rattle.ordinary.proofs.ordinary_at.Tie as tie
-use Rattle.ordinary.proofs.ordinary_at.Goals.{Start}
 use Rattle.ordinary.proofs.ordinary_at.Goals as goal
 
-abbrev had : Start → Parts
-had c = let a = c.args in parts a.head.now a.members.now a.target.now a.holder.now a.waiting.now
+module _ (g : D.Group) (p : Place) (b : E.Request) (l : Option (List ℕ)) where
+  -- the second row 42, as the code tries it
+  unheld : {r : Bool} → r ≡ any (holder_not (slots_in g.tables) p.0) (default [] l) → any (not_held_by (view g) p.0) (default [] l) ≡ r
+  unfolding not_held_by view
+  unheld e = sym e
 
-abbrev request : Start → Request
-request c = request_of c.args.b c.args.owned.now
+  module _ (sent : Sends g.members.cells p b) (k : Plan) where
+    -- a plan for the seat that was gathered is one for the sender
+    is_plan : {s : Seat} → Some s ≡ Some (numbers_at g.members.cells p.0) → Plans (view g) (record { place = p; seat = s }) b l k → PlanIs (view g) (sender_at g.members.cells p) (asked b l) k
+    is_plan {s} e i = let q : s ≡ numbers_at g.members.cells p.0 = cc in subst (λ (x : Seat). Plans (view g) (record { place = p; seat = x }) b l k) q i sent.below sent.own
 
-abbrev sender : Start → Sender
-sender c = sender_at c.args.members.now c.args.p
-
-unheld : (c : (lts.After-lists_unheld tie.the-claims reads.Pre reads.Post)) (ts : List (Option Topic)) → let x = c.before.before.before.before.before in any (not_held_by (view_parts ts (had x)) x.args.p.0) (default [] (request x).owned) ≡ c.lists_unheld.result
-unfolding not_held_by request_of view_parts view_with
-unheld c ts = let x = c in let w = c.whole.ensures in sym (c.lists_unheld.ensures x.args.target.now x.args.waiting.now (w.target_long, w.holder_long, w.waiting_long))
-
-is-plan : (c : (lts.After-make_plan tie.the-claims reads.Pre reads.Post)) (ts : List (Option Topic)) → let x = c.before.before.before.before.before.before.before.before.before.before.before in Sends (sender x) x.args.b → PlanIs (view_parts ts (had x)) (sender x) (request x) c.make_plan-k.result
-unfolding view_parts view_with
-is-plan c ts sent =
-    let x = c.before.before.before.before.before.before.before.before.before.before.before in
-    subst (λ (s : Seat). Sends (record { place = x.args.p; seat = s }) x.args.b → PlanIs (view_parts ts (had x)) (record { place = x.args.p; seat = s }) (request x) c.make_plan-k.result)
-    c.seat_at-seat.ensures (c.make_plan-k.ensures (view_parts ts (had x)) refl refl refl) sent
-
-real : (c : (lts.After-make_plan tie.the-claims reads.Pre reads.Post)) → let x = c.before.before.before.before.before.before.before.before.before.before.before in Sends (sender x) x.args.b → zero_id c.make_plan-k.result.member.id ≡ false
-unfolding member_after request_of
-real c sent = ap (λ (m : Member). zero_id m.id) (is-plan c [] sent).member_is ∙ sent.real
+    real : PlanIs (view g) (sender_at g.members.cells p) (asked b l) k → zero_id k.member.id ≡ false
+    unfolding member_after
+    real i = ap (λ (m : Member). zero_id m.id) i.member_is ∙ sent.real
 
 pub returns-then-lists_unheld : goal.returns-then-lists_unheld
 returns-then-lists_unheld c = λ sent.
-    let x = c.before.before.before.before.before.before.before.before in
-    let a = x.args in (
-      same_refused c.refused.ensures (had x),
-      λ ts.
-          let g = view_parts ts (had x) in
-          took_refused c.refused.ensures g a.records.now a.list.now ∙ sym (row_unheld g (view_sender (sender x)) (request x) a.records.now a.list.now (unheld c.before.before.before ts ∙ c.if-lists_unheld.true)),
-    )
+    let a = c.args in
+    let g = a.group.now in
+    let l = listed a.owned in
+    refusal (row_unheld (view g) (view_sender (sender_at g.members.cells a.p)) (asked a.b l) a.records.now a.list.now (unheld g a.p a.b l c.lists_unheld.ensures ∙ c.if-lists_unheld.true))
 
 pub returns-then-past_end : goal.returns-then-past_end
-unfolding view_parts view_with
+unfolding view
 returns-then-past_end c = λ sent.
-    let x = c.before.before.before.before.before.before.before.before.before.before.before.before.before.before.before in
-    let a = x.args in
-    let k = c.make_plan-k.result in (
-      same_refused c.refused-then-past_end.ensures (had x),
-      λ ts.
-          let g = view_parts ts (had x) in
-          took_refused c.refused-then-past_end.ensures g a.records.now a.list.now
-          ∙ sym (row_end g (sender x) (request x) k (is-plan c.before.before.before.before ts sent) a.records.now a.list.now (unheld c.before.before.before.before.before.before.before.before.before.before ts ∙ c.if-lists_unheld.false) (sym c.past_end.ensures ∙ c.if-past_end.true)),
-    )
+    let a = c.args in
+    let g = a.group.now in
+    let l = listed a.owned in
+    let k = c.make_plan-k in
+    let plan = is_plan g a.p a.b l sent k.result (sym c.in-Some.is ∙ c.seat_at.ensures ∙ sent.there) k.ensures in
+    refusal (row_end (view g) (sender_at g.members.cells a.p) (asked a.b l) k.result plan a.records.now a.list.now (unheld g a.p a.b l c.lists_unheld.ensures ∙ c.if-lists_unheld.false) (sym c.past_end.ensures ∙ c.if-past_end.true))
 
 pub returns : goal.returns
-unfolding view_parts view_with request_of
+unfolding view
 returns c = λ sent.
-    let x = c.before.before.before.before.before.before.before.before.before.before.before.before.before.before.before.before.before.before.before.before.before.before.before.before.before.before in
-    let a = x.args in
-    let k = c.make_plan-k.result in
-    let done = c.carry.ensures (real c.before.before.before.before.before.before.before.before.before.before.before.before.before.before.before sent) in
-    let open_end = sym c.past_end.ensures ∙ c.if-past_end.false in (
+    let a = c.args in
+    let g = a.group.now in
+    let l = listed a.owned in
+    let k = c.make_plan-k in
+    let s = sender_at g.members.cells a.p in
+    let plan = is_plan g a.p a.b l sent k.result (sym c.in-Some.is ∙ c.seat_at.ensures ∙ sent.there) k.ensures in
+    let below = sym c.past_end.ensures ∙ c.if-past_end.false in
+    let done = c.carry.ensures (real g a.p a.b l sent k.result plan) in (
       done.0,
-      λ ts.
-          let g = view_parts ts (had x) in
-          let p = is-plan c.before.before.before.before.before.before.before.before.before.before.before.before.before.before.before ts sent in
-          done.1 ts
-          ∙ ap (λ (f : Effect). carried g f a.records.now a.list.now) (planned_is g (sender x) (request x) k p open_end)
-          ∙ sym (row_room g (sender x) (request x) k p a.records.now a.list.now (unheld c.before.before.before.before.before.before.before.before.before.before.before.before.before.before.before.before.before.before.before.before.before ts ∙ c.if-lists_unheld.false) open_end),
+      done.1,
+      done.2
+          ∙ ap (λ (f : Effect). carried (view g) f a.records.now a.list.now) (planned_is (view g) s (asked a.b l) k.result plan below)
+          ∙ sym (row_room (view g) s (asked a.b l) k.result plan a.records.now a.list.now (unheld g a.p a.b l c.lists_unheld.ensures ∙ c.if-lists_unheld.false) below),
     )

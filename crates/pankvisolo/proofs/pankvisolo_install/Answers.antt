@@ -2,10 +2,12 @@
 use Rattle.std.proofs.Common.{ℤ, ap}
 use Rattle.std.proofs.Math.Facts.{to_z-of_z}
 use Rattle.rules.specs.Event as E
-use Rattle.pankvisolo.proofs.Answering.{same_event}
+use Rattle.events.specs.Outcomes.{all_but_target}
+use Rattle.pankvisolo.proofs.Answering.{same_event, serves}
 use Rattle.pankvisolo.proofs.pankvisolo_install.Goals as goal
 
 pub returns : goal.returns
 returns c =
-    let same_bits = ap (λ (z : ℤ). E.install E.with_rule z c.args.entries.now) (to_z-of_z c.ranges.epoch) in
-    λ l. same_event same_bits (c.install.ensures l)
+    let a = c.args in
+    let same_bits = ap (λ (z : ℤ). E.install E.with_rule z a.entries.now) (to_z-of_z c.ranges.epoch) in
+    λ l. same_event same_bits (serves all_but_target c.install.result c.into.ensures _ _ _ a.records.now _ l l (c.install.ensures l))

@@ -1,31 +1,19 @@
-use Prim.Native.Nat.{ℕ, ◌+◌}
 use native.Mathlib.Omega.{arith}
-use mathlib.Core.Path.{◌≡◌, sym, ap, ◌∙◌}
+use mathlib.Core.Path.{sym, ap, ◌∙◌}
+use Prim.Native.Nat.{ℕ, ◌+◌}
+use Rattle.tables.specs.View.{slot_at}
 use Rattle.tables.specs.Places.{near}
-use Rattle.quiet.specs.Settling.{part_length, near_count}
-use Rattle.quiet.proofs.Counting.{begin, next, skip}
+use Rattle.quiet.specs.Settling.{near_count}
+use Rattle.quiet.proofs.Counting.{next, at_most_one}
 use Rattle.quiet.proofs.count_part.Goals as goal
-
-pub loop-i-init : goal.loop-i-init
-loop-i-init c = let a = c.args in (omega arith, omega arith, begin a.target.now a.holder.now a.p.0 a.from)
-
-pub loop-i-preserved-then-h-p : goal.loop-i-preserved-then-h-p
-unfolding near
-loop-i-preserved-then-h-p c =
-    let a = c.args in
-    let l = c.loop-i in
-    (omega arith, omega arith, next a.target.now a.holder.now a.p.0 a.from l.i l.n l.invariant.2 c.if-h-p.true)
 
 pub loop-i-preserved : goal.loop-i-preserved
 unfolding near
 loop-i-preserved c =
     let a = c.args in
     let l = c.loop-i in
-    (omega arith, omega arith, skip a.target.now a.holder.now a.p.0 a.from l.i l.n l.invariant.2 c.if-h-p.false)
-
-pub returns : goal.returns
-returns c =
-    let a = c.args in
-    let l = c.loop-i in
-    let e : l.i ≡ part_length = omega arith in
-    (ap (λ (n : ℕ). near_count a.target.now a.holder.now a.p.0 (a.from + n)) (sym e) ∙ l.invariant.2, omega arith)
+    let t = a.tables.now in
+    let few = at_most_one (near a.p.0 (slot_at t (a.from + l.i))) in (
+      omega (arith, c.from-n.ensures, few),
+      next t a.p.0 a.from l.i l.n l.invariant.1 ∙ ap (λ (m : ℕ). near_count t a.p.0 a.from + (l.n + m)) (sym c.from-n.ensures),
+    )

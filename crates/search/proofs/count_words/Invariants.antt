@@ -1,13 +1,6 @@
--- The count of the part passed is kept.
-use mathlib.Core.Path.{◌≡◌}
-use Prim.Native.Nat.{◌+◌, ◌-◌, ◌≤◌}
-use lib.ListN.{take}
-use Rattle.search.specs.Occurrences.{occurs}
-use Rattle.search.specs.Places.{step}
+-- The count of the entries passed is kept.
+use Rattle.std.proofs.Common.{◌≡◌, eqb, count_by, take}
 use Rattle.search.proofs.count_words.Given as goal
 
-abbrev pub invariant-loop-i : goal.invariant-loop-i
-invariant-loop-i l = (l.i ≤ step) × (l.n ≤ l.i) × (occurs l.a (take (l.from + l.i) l.ids) ≡ occurs l.a (take l.from l.ids) + l.n)
-
-abbrev pub decreases-loop-i : goal.decreases-loop-i
-decreases-loop-i l = step - l.i
+abbrev pub invariant-loop-id : goal.invariant-loop-id
+invariant-loop-id l = l.n ≡ count_by (λ x. eqb x l.a) (take l.id-index l.id-items)

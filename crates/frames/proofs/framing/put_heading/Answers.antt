@@ -1,6 +1,7 @@
-use Rattle.frames.proofs.Entries.{no_room, room}
+use Rattle.std.proofs.Common.{refl}
 use Rattle.rules.specs.Journal.{heading}
-use native.Mathlib.Omega.{arith}
+use Rattle.rules.specs.Step.{overlay}
+use Rattle.frames.proofs.Entries.{no_room, room}
 use Rattle.frames.proofs.framing.put_heading.Goals as goal
 
 pub returns-then-journal-lt-HEADING_LENGTH : goal.returns-then-journal-lt-HEADING_LENGTH
@@ -8,5 +9,6 @@ unfolding heading
 returns-then-journal-lt-HEADING_LENGTH c = no_room heading _ c.if-journal-lt-HEADING_LENGTH.true
 
 pub returns : goal.returns
-unfolding heading
-returns c = let p = c.put_bytes in room heading _ (omega arith) p.new.buf p.result p.ensures
+unfolding heading overlay
+returns c =
+    rw c.copy_from_slice.ensures.after (room heading _ c.if-journal-lt-HEADING_LENGTH.false _ _ record { count = refl; bytes = refl })

@@ -1,19 +1,23 @@
-use Rattle.frames.proofs.Measures.{none_left, zero_length, short_length, long_length, from_second}
-use native.Mathlib.Omega.{arith}
-use mathlib.Core.Path.{sym, ◌∙◌}
+use Rattle.frames.proofs.Measures.{none_left, zero_length, short_length, long_length}
 use Rattle.frames.proofs.lengths.read_length.Goals as goal
 
-pub returns-then-s-at : goal.returns-then-s-at
-returns-then-s-at c = none_left _ _ c.if-s-at.true
+pub returns-in_default : goal.returns-in_default
+returns-in_default c = none_left _ _ c.in_default.ensures.lookup.3
 
-pub second_group-requires : goal.second_group-requires
-second_group-requires c = omega (arith, c.wide-b.ensures, c.type_inv.s c.args.at)
+pub returns-then-first-ge128 : goal.returns-then-first-ge128
+returns-then-first-ge128 c =
+    let a = c.args in
+    let some = c.in-Some.ensures.lookup.3 in
+    long_length a.s.now a.at c.in-Some.b.now some.0 (some.1 0) c.if-first-ge128.true c.second_group.result c.second_group.ensures
 
-pub returns-then-b-ge128 : goal.returns-then-b-ge128
-returns-then-b-ge128 c = let a = c.args in let e = c.wide-b.ensures in from_second c.second_group.result (rw (long_length a.s.now a.at (omega arith) (omega arith), ← e) c.second_group.ensures)
-
-pub returns-then-b-eq0 : goal.returns-then-b-eq0
-returns-then-b-eq0 c = let a = c.args in let e = c.wide-b.ensures in zero_length a.s.now a.at (omega arith) (sym e ∙ c.if-b-eq0.true)
+pub returns-then-first-eq0 : goal.returns-then-first-eq0
+returns-then-first-eq0 c =
+    let a = c.args in
+    let some = c.in-Some.ensures.lookup.3 in
+    zero_length a.s.now a.at c.in-Some.b.now some.0 (some.1 0) c.if-first-eq0.true
 
 pub returns : goal.returns
-returns c = let a = c.args in let e = c.wide-b.ensures in rw e (short_length a.s.now a.at (omega arith) (omega arith) (λ z. c.if-b-eq0.false (e ∙ z)))
+returns c =
+    let a = c.args in
+    let some = c.in-Some.ensures.lookup.3 in
+    short_length a.s.now a.at c.in-Some.b.now some.0 (some.1 0) c.if-first-ge128.false c.if-first-eq0.false

@@ -1,11 +1,10 @@
 -- The timeout is the one there was, or another.
-use mathlib.Core.Path.{ap, ◌∙◌}
-use mir.Syntax.{w32}
+use Rattle.std.proofs.Common.{rules, ap, ◌∙◌}
 use mir.Facts.{to_z-of_z}
+use mir.Syntax.{w32}
 use mir.Val.{SFits}
-use borrow.Author.Rules.{rules}
 use Rattle.rules.specs.Batches.{is_signed}
-use Rattle.judging.proofs.Beating.{own_timeout, other_timeout_lem}
+use Rattle.judging.proofs.Beating.{other_timeout_lem, own_timeout}
 use Rattle.judging.proofs.asking.given_timeout.Goals as goal
 
 pub returns-then-timeout-had : goal.returns-then-timeout-had

@@ -1,13 +1,12 @@
 -- At each `return` a test of the rules is decided.
-use borrow.Author.Tests.{not-true, not-false}
 use Rattle.judging.proofs.Candidates.{no_epoch, not_current, same_epoch}
 use Rattle.judging.proofs.asking.is_join.Goals as goal
 
-pub returns-then-not-said : goal.returns-then-not-said
-returns-then-not-said c = λ o is. no_epoch _ o (not-true _ c.if-not-said.true)
+pub returns-in-Some-Some : goal.returns-in-Some-Some
+returns-in-Some-Some c = λ o is. same_epoch c.args.said o is _ _ _ c.in-Some-Some.is-0 c.in-Some-Some.is-1
 
-pub returns-then-not-said-2 : goal.returns-then-not-said-2
-returns-then-not-said-2 c = λ o is. not_current _ o is (not-true _ c.if-not-said-2.true)
+pub returns-in_default : goal.returns-in_default
+returns-in_default c = λ o is. not_current c.args.said o is c.in_default.is-1
 
-pub returns : goal.returns
-returns c = λ o is. same_epoch _ o is (not-false _ c.if-not-said.false) (not-false _ c.if-not-said-2.false)
+pub returns-in_default-2 : goal.returns-in_default-2
+returns-in_default-2 c = λ o is. no_epoch c.args.said o c.in_default.is-0

@@ -1,10 +1,9 @@
 -- A number of 31 bits is its own remainder.
-use Prim.Native.Nat.{◌%◌}
+use Rattle.std.proofs.Common.{ap, ◌∙◌, ◌%◌, ◌≡◌}
 use native.Mathlib.Omega.{arith}
-use mathlib.Core.Path.{◌≡◌, ap, ◌∙◌}
 use mir.Syntax.{w32}
-use mir.Facts.{to_z_pos}
 use mir.Val.{to_z}
+use mir.Facts.{to_z_pos}
 use Rattle.judging.proofs.Beating.{is_signed_lem}
 use Rattle.judging.proofs.asking.signed.Goals as goal
 

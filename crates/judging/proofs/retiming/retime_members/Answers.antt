@@ -1,14 +1,15 @@
 use native.Mathlib.Omega.{arith}
-use Rattle.judging.proofs.Ticks.{none_ticked, one_ticked, all_ticked}
+use Rattle.std.proofs.Common.{rules, length, ◌≡◌}
+use Rattle.judging.proofs.Ticks.{all_ticked, none_ticked, one_ticked}
 use Rattle.judging.proofs.retiming.retime_members.Goals as goal
 
 pub loop-p-init : goal.loop-p-init
-loop-p-init c = (omega arith, λ n. none_ticked _ _)
+loop-p-init c = none_ticked _ _
 
 pub loop-p-preserved : goal.loop-p-preserved
 loop-p-preserved c =
-    let l = c.loop-p in
-    (omega arith, λ n. one_ticked _ _ _ _ n (omega arith) (l.invariant.1 n))
+    let n : length c.args.members.now.cells ≡ 288 = search rules in
+    one_ticked _ _ _ _ n (omega arith) c.loop-p.invariant
 
 pub returns : goal.returns
-returns c n = let l = c.loop-p in all_ticked _ _ _ _ (omega arith) (l.invariant.1 n)
+returns c = let l = c.loop-p in all_ticked _ _ _ _ (omega arith) l.invariant

@@ -1,28 +1,27 @@
-use Prim.Native.Nat.{ℕ}
 use native.Mathlib.Omega.{arith}
-use mathlib.Core.Path.{ap, ◌∙◌}
+use Rattle.std.proofs.Common.{ℕ, ap, sym, subst, ◌+◌, ◌∙◌}
 use Rattle.rules.specs.Batches.{silent}
 use Rattle.group.specs.Columns.{view_members}
 use Rattle.group.proofs.Columns.{members_long}
-use Rattle.judging.proofs.Ticks.{none_silenced, marked, unmarked, all_silenced}
+use Rattle.group.specs.declared.members.Members.{Members}
+use Rattle.judging.proofs.Ticks.{Silenced, all_silenced, marked, none_silenced, unmarked}
 use Rattle.judging.proofs.retiming.silence.Invariants.{since}
 use Rattle.judging.proofs.retiming.silence.Goals as goal
+use Rattle.judging.proofs.retiming.silence.Goals.{then-gone-p, else-gone-p}
 
 pub loop-p-init : goal.loop-p-init
-loop-p-init c = (omega arith, none_silenced _ _ _)
-
-pub loop-p-preserved-then-gone-here : goal.loop-p-preserved-then-gone-here
-loop-p-preserved-then-gone-here c =
-    let l = c.loop-p in
-    (omega arith, marked _ _ _ _ _ l.invariant.1 _ (members_long _) (omega arith) c.hear.ensures c.if-gone-here.true)
+loop-p-init c = none_silenced _ _ _
 
 pub loop-p-preserved : goal.loop-p-preserved
 loop-p-preserved c =
     let l = c.loop-p in
-    (omega arith, unmarked _ _ _ _ _ l.invariant.1 c.if-gone-here.false)
+    let keeps : Members → Type 0 = λ m. Silenced c.elapsed-since.result c.args.gone.now (view_members c.args.members.now.cells) (view_members m.cells) (l.p + 1) in
+    elim c.if-gone-p.branch [
+      | then-gone-p w ↦ subst keeps (sym w.members-is) (marked _ _ _ _ _ l.invariant _ (members_long _) (omega arith) w.hear.ensures w.if-gone-p.true)
+      | else-gone-p w ↦ subst keeps (sym w.members-is) (unmarked _ _ _ _ _ l.invariant w.if-gone-p.false)
+    ]
 
 pub returns : goal.returns
 returns c ps m =
-    let l = c.loop-p in
-    all_silenced _ _ _ _ ps _ (omega arith) l.invariant.1 m
-    ∙ ap (λ (s : ℕ). silent s ps 0 (view_members c.args.members.now)) (since _ _ c.elapsed-since.ensures)
+    all_silenced _ _ _ _ ps _ (omega arith) c.loop-p.invariant m
+    ∙ ap (λ (s : ℕ). silent s ps 0 (view_members c.args.members.now.cells)) (since _ _ c.elapsed-since.ensures)

@@ -1,7 +1,5 @@
--- The places before p that are gone are silent.
-use Prim.Native.Nat.{ℕ, ◌-◌, ◌≤◌}
-use mathlib.Core.Path.{◌≡◌}
-use Rattle.rules.specs.Constants.{max_members, session_timeout}
+use Rattle.std.proofs.Common.{ℕ, ◌≡◌}
+use Rattle.rules.specs.Constants.{session_timeout}
 use Rattle.rules.specs.Group.{elapsed}
 use Rattle.rules.specs.Batches.{session_before}
 use Rattle.group.specs.Columns.{view_members}
@@ -13,8 +11,6 @@ pub since : (t s : ℕ) → s ≡ elapsed t session_timeout → s ≡ session_be
 unfolding elapsed session_before
 since t s e = e
 
+-- the places before p that are gone are silent
 abbrev pub invariant-loop-p : goal.invariant-loop-p
-invariant-loop-p l = (l.p ≤ max_members) × Silenced l.since l.gone (view_members l.initial.members) (view_members l.members) l.p
-
-abbrev pub decreases-loop-p : goal.decreases-loop-p
-decreases-loop-p l = max_members - l.p
+invariant-loop-p l = Silenced l.since l.gone (view_members l.initial.members.cells) (view_members l.members.cells) l.p

@@ -1,11 +1,6 @@
 -- The groups so far come to `low`, and the rest of the bytes makes the number of it (`Groups`).
-use Prim.Native.Nat.{◌-◌}
-use lib.ListN.{length}
 use Rattle.reading.proofs.Groups.{Groups}
 use Rattle.reading.proofs.fields.number.Given as goal
 
 abbrev pub invariant-loop-i : goal.invariant-loop-i
 invariant-loop-i l = Groups l.s l.at l.low l.weight l.i
-
-abbrev pub decreases-loop-i : goal.decreases-loop-i
-decreases-loop-i l = length l.s - l.i

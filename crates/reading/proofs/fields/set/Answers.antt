@@ -1,6 +1,9 @@
--- The size, and so many differences.
-use Rattle.reading.proofs.ByKind.{set_at}
+-- One slot more.
+use native.Mathlib.Omega.{arith}
+use Rattle.reading.proofs.Rising.{rising_more}
 use Rattle.reading.proofs.fields.set.Goals as goal
 
-pub returns : goal.returns
-returns c = set_at c.number-n.ensures c.slots_at.ensures
+pub loop-preserved : goal.loop-preserved
+loop-preserved c =
+    let d = c.in_ok-d.ensures in
+    rising_more c.loop.invariant _ _ _ (omega arith) d.0 _ c.in_ok-slot.ensures d.1 d.2

@@ -1,7 +1,19 @@
--- The byte of the kind, and what follows.
-use mathlib.Core.Path.{◌∙◌}
-use Rattle.reading.proofs.ByKind.{record_at_lem}
+-- A byte that is no kind.
+use native.Mathlib.Omega.{arith}
+use borrow.Author.Tests.{ne_eqb}
+use Rattle.rules.specs.Reader.{◌>>=◌, and_then, refuse}
 use Rattle.reading.proofs.kinds.record.Goals as goal
 
-pub returns : goal.returns
-returns c = c.of_kind.ensures ∙ record_at_lem c.byte-k.ensures
+pub returns-in_default : goal.returns-in_default
+unfolding ◌>>=◌ and_then refuse
+returns-in_default c =
+    let k = c.in_ok-kind in
+    rw (
+      k.ensures.0,
+      ne_eqb k.kind 3 (λ e. omega arith),
+      ne_eqb k.kind 4 (λ e. omega arith),
+      ne_eqb k.kind 5 (λ e. omega arith),
+      ne_eqb k.kind 6 (λ e. omega arith),
+      ne_eqb k.kind 7 (λ e. omega arith),
+      ne_eqb k.kind 8 (λ e. omega arith),
+    )

@@ -6,14 +6,11 @@ use mir.Syntax.{w64}
 use mir.Val.{Fits}
 use lib.Bits.{bit_or}
 use Rattle.slots.proofs.Bits.{bit_or_lem}
-use Rattle.slots.proofs.Each.{each_none, each_more}
+use Rattle.slots.proofs.Each.{each_more}
 use Rattle.slots.proofs.Words.{wordwise}
 use borrow.Author.Rules.{rules}
 use Rattle.slots.specs.Set.{word_count}
 use Rattle.slots.proofs.SlotSet.union.Goals as goal
-
-pub loop-i-init : goal.loop-i-init
-loop-i-init c = (search rules, each_none _ _)
 
 pub loop-i-preserved : goal.loop-i-preserved
 loop-i-preserved c = let l = c.loop-i in

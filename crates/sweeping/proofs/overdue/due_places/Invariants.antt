@@ -1,16 +1,10 @@
--- The marks below k are those of the members that are due.
-use Prim.Native.Nat.{ℕ, ◌-◌, ◌≤◌, ◌<◌}
-use mathlib.Core.Option.{none}
-use mathlib.Core.Path.{◌≡◌}
-use lib.ListN.{length, get_or}
-use Rattle.rules.specs.Constants.{max_members}
+-- The marks below p are those of the members that are due.
+use Rattle.std.proofs.Common.{◌≡◌, ℕ, ◌<◌, slice_index_or}
+use Rattle.std.proofs.Math.Option.{none}
 use Rattle.rules.specs.Effects.{due}
 use Rattle.group.specs.Columns.{view_members}
 use Rattle.sweeping.specs.Marks.{mark}
 use Rattle.sweeping.proofs.overdue.due_places.Given as goal
 
-abbrev pub invariant-loop-k : goal.invariant-loop-k
-invariant-loop-k l = (l.k ≤ max_members) × (length l.gone ≡ max_members) × ((p : ℕ) → p < l.k → mark l.gone p ≡ due l.tick (mark l.revoking p) (get_or (view_members l.members) p none))
-
-abbrev pub decreases-loop-k : goal.decreases-loop-k
-decreases-loop-k l = max_members - l.k
+abbrev pub invariant-loop-p : goal.invariant-loop-p
+invariant-loop-p l = (p : ℕ) → p < l.p → mark l.goes-items p ≡ due l.tick (mark l.revoking p) (slice_index_or (view_members l.members.cells) p none)

@@ -1,39 +1,32 @@
 use native.Mathlib.Omega.{arith}
-use mathlib.Core.Path.{refl}
-use lib.ListN.{length-set}
-use Rattle.tables.specs.View.{view_lists}
-use Rattle.sweeping.proofs.Marking.{mark_begin, mark_end, mark_none, mark_one, mark_past}
+use mathlib.Core.Bool.{false}
+use mathlib.Core.Path.{refl, ap, ◌∙◌}
+use lib.ListN.{get_or-replicate, length-set}
+use lib.Seq.{take_all}
+use Rattle.rules.specs.Basics.{any}
+use Rattle.rules.specs.Constants.{max_members}
+use Rattle.rules.specs.Group.{revoking}
+use Rattle.tables.specs.View.{slots_in}
+use Rattle.tables.proofs.Viewing.{view_slots}
+use Rattle.sweeping.proofs.Marking.{mark_none, mark_one, mark_past}
+use Rattle.sweeping.proofs.overdue.revoking_places.Goals.{then-waits+then-p-lt-MEMBERS, then-waits+else-p-lt-MEMBERS, else-waits}
 use Rattle.sweeping.proofs.overdue.revoking_places.Goals as goal
 
-pub loop-next-init : goal.loop-next-init
-loop-next-init c = (omega arith, refl, λ ts n. mark_begin (view_lists ts c.args.holder.now c.args.waiting.now))
+pub loop-s-init : goal.loop-s-init
+loop-s-init c = record { long = refl; marked = λ p q. get_or-replicate max_members p false false q }
 
-pub loop-next-preserved-then-p-lt-MEMBERS : goal.loop-next-preserved-then-p-lt-MEMBERS
-loop-next-preserved-then-p-lt-MEMBERS c =
-    let l = c.loop-next in
-    let a = c.args in (
-      omega arith,
-      simp length-set l.invariant.1,
-      λ ts n. mark_one ts a.holder.now a.waiting.now n (omega arith) (l.invariant.2 ts n) c.if-waiting-s.true c.index-p.ensures l.invariant.1 c.if-p-lt-MEMBERS.true,
-    )
-
-pub loop-next-preserved-else-p-lt-MEMBERS : goal.loop-next-preserved-else-p-lt-MEMBERS
-loop-next-preserved-else-p-lt-MEMBERS c =
-    let l = c.loop-next in
-    let a = c.args in (
-      omega arith,
-      l.invariant.1,
-      λ ts n. mark_past ts a.holder.now a.waiting.now n (omega arith) (l.invariant.2 ts n) c.if-waiting-s.true c.index-p.ensures c.if-p-lt-MEMBERS.false,
-    )
-
-pub loop-next-preserved : goal.loop-next-preserved
-loop-next-preserved c =
-    let l = c.loop-next in
-    let a = c.args in
-    (omega arith, l.invariant.1, λ ts n. mark_none ts a.holder.now a.waiting.now n (omega arith) (l.invariant.2 ts n) c.if-waiting-s.false)
+pub loop-s-preserved : goal.loop-s-preserved
+loop-s-preserved c =
+    let t = c.args.tables.now in
+    let l = c.loop-s in
+    let m = l.invariant.marked in
+    elim c.if-waits.branch [
+      | then-waits+then-p-lt-MEMBERS w ↦ rw w.marks-is (record { long = simp length-set l.invariant.long; marked = mark_one t (omega arith) (omega arith) (omega arith) (omega arith) l.marks m w.if-waits.true l.invariant.long (omega arith) })
+      | then-waits+else-p-lt-MEMBERS w ↦ rw w.marks-is (record { long = l.invariant.long; marked = mark_past t (omega arith) (omega arith) (omega arith) (omega arith) l.marks m w.if-waits.true (omega arith) })
+      | else-waits w ↦ rw w.marks-is (record { long = l.invariant.long; marked = mark_none t (omega arith) (omega arith) (omega arith) (omega arith) l.marks m w.if-waits.false })
+    ]
 
 pub returns : goal.returns
 returns c =
-    let l = c.loop-next in
-    let a = c.args in
-    λ ts n. mark_end ts a.holder.now a.waiting.now n (l.invariant.2 ts n) (omega arith)
+    let t = c.args.tables.now in
+    λ p q. c.loop-s.invariant.marked p q ∙ ap (any (revoking p)) (take_all c.loop-s.s (slots_in t) (omega (arith, view_slots t.target t.holder t.waiting (omega arith) (omega arith) (omega arith))))

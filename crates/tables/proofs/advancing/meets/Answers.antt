@@ -1,20 +1,14 @@
-use native.Mathlib.Omega.{arith}
-use mathlib.Core.Path.{sym, ◌∙◌}
-use Rattle.tables.proofs.Lists.{open_begin, open_found, open_more, open_end}
+use borrow.Author.Rules.{rules}
+use borrow.Author.Tests.{tests}
+use mathlib.Core.Path.{◌∙◌}
+use Rattle.std.proofs.lemmas.Iterator.{YieldsList-from_slice}
+use Rattle.std.proofs.lemmas.Iterator.Search.{any_from_yields_List}
+use Rattle.slots.specs.Set.{has}
+use Rattle.tables.proofs.Lists.{any_is}
 use Rattle.tables.proofs.advancing.meets.Goals as goal
 
-pub loop-i-init : goal.loop-i-init
-loop-i-init c = open_begin _ _ _
-
-pub returns-then-contains : goal.returns-then-contains
-returns-then-contains c =
-    let l = c.loop-i in
-    open_found _ _ _ l.invariant (omega arith) (sym c.contains.ensures ∙ c.if-contains.true)
-
-pub loop-i-preserved : goal.loop-i-preserved
-loop-i-preserved c =
-    let l = c.loop-i in
-    open_more _ _ _ l.invariant (omega arith) (sym c.contains.ensures ∙ c.if-contains.false)
-
 pub returns : goal.returns
-returns c = open_end _ _ _ c.loop-i.invariant (omega arith)
+returns c =
+    let a = c.args in
+    any_from_yields_List (has a.set.words) _ _ _ c.any.ensures.ran (YieldsList-from_slice a.list.now cc) (λ x b q k. search (rules, tests))
+    ∙ any_is (has a.set.words) a.list.now

@@ -1,28 +1,22 @@
-use mathlib.Core.Path.{◌≡◌, refl}
-use native.Mathlib.Omega.{arith}
-use lib.ListN.{length}
+-- At each entry, what was found is whether some entry that was passed is p.
 use borrow.Author.Rules.{rules}
-use Rattle.rules.specs.Constants.{slot_count}
+use borrow.Author.Tests.{tests}
+use Prim.Native.Nat.{ℕ}
+use lib.Dec.{eqb}
+use mathlib.Core.Path.{◌≡◌, refl, sym, ap, ◌∙◌}
+use mathlib.Core.Bool.{Bool, ◌||◌}
+use mathlib.Core.List.{List}
+use Rattle.std.proofs.iter.Yields.{fronts}
+use Rattle.std.proofs.lemmas.Fn.{fold_over, slice_gives}
+use Rattle.std.proofs.lemmas.List.Recursion.{or_push}
+use Rattle.rules.specs.Basics.{any}
 use Rattle.tables.specs.Places.{is_place}
-use Rattle.tables.proofs.Lists.{seen_more, seen_all}
-use Rattle.tables.proofs.testing.names.Goals.{After-all-1}
 use Rattle.tables.proofs.testing.names.Goals as goal
-
-all-entries : (c : After-all-1) → length c.args.entries.now ≡ slot_count
-all-entries c = search rules
-
-pub loop-i-init : goal.loop-i-init
-loop-i-init c = (omega arith, refl)
-
-pub loop-i-preserved : goal.loop-i-preserved
-loop-i-preserved c =
-    let a = c.args in
-    let l = c.loop-i in
-    let e = seen_more 0 (is_place a.p.0) a.entries.now l.found l.i l.invariant.1 (omega (arith, all-entries c.before.before.before.before.before.before.before)) in
-    (omega arith, rw c.either-found.ensures e)
 
 pub returns : goal.returns
 returns c =
-    let a = c.args in
-    let l = c.loop-i in
-    seen_all 0 (is_place a.p.0) a.entries.now l.found l.i l.invariant.1 (omega (arith, all-entries c.before.before))
+    let p = c.args.p.0 in
+    fold_over fronts (λ y. y.now) _ (λ (seen : List ℕ) (found : Bool). found ≡ any (is_place p) seen) _ (λ seen found e after f' q k.
+    let by_call : after ≡ (found || eqb e.now p) = search (rules, tests) in
+    (by_call ∙ ap (λ (b : Bool). b || eqb e.now p) q ∙ sym (or_push (any (is_place p)) (is_place p) refl (λ _ _. refl) seen e.now), search (rules, tests)))
+    c.iter.result _ _ _ (slice_gives c.iter.result) refl c.fold.ensures.ran ∙ ap (any (is_place p)) c.iter.ensures.rest

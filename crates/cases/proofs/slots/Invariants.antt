@@ -1,9 +1,0 @@
--- `cases::slots` is safe and ends: the counter goes up to `count`.
-use Rattle.std.proofs.Common.{◌≤◌, ◌-◌}
-use Rattle.cases.proofs.slots.Given as goal
-
-abbrev pub invariant-loop-i : goal.invariant-loop-i
-invariant-loop-i g l = l.i ≤ l.count
-
-abbrev pub decreases-loop-i : goal.decreases-loop-i
-decreases-loop-i g l = l.count - l.i

@@ -1,9 +1,0 @@
--- The record is numbers alone. Assumes nothing.
-use Rattle.records.proofs.Parts.{target_epoch_fields}
-use Rattle.records.proofs.kinds.put_target_epoch.Goals as goal
-
-pub returns : goal.returns
-returns c = rw target_epoch_fields c.put_two.ensures
-
-pub put_two-requires : goal.put_two-requires
-put_two-requires c = rw target_epoch_fields at c.requires
