@@ -9,8 +9,8 @@ use Rattle.rules.specs.Constants.{batch_limit}
 use Rattle.rules.specs.Records.{number}
 use Rattle.rules.specs.Step.{overlay}
 use Rattle.rules.specs.Journal.{entry}
-use Rattle.numbers.specs.Buffer.{Wrote, flat, overlay_at}
-use Rattle.numbers.proofs.Writing.{Writing, begin, over_whole, put_at_lem, room₀, room_at, ended}
+use Rattle.numbers.specs.Buffer.{Wrote, WroteAt, flat}
+use Rattle.numbers.proofs.Writing.{Writing, begin, over_whole, put_at_lem, room₀, ended}
 use Rattle.frames.specs.Forms.{framed, if_room}
 
 pub entry_is : (w : List ℕ) → 1 ≤ length w → entry w ≡ number (length w) ++ w
@@ -18,32 +18,27 @@ unfolding entry
 entry_is [] h = absurd (omega arith)
 entry_is (b ∷ w) h = refl
 
-pub entry_parts : (w : List ℕ) (n : ℕ) → n ≡ length w → 1 ≤ n → flat (number n ∷ w ∷ []) ≡ entry w
-entry_parts w n e h = rw (e, append-nil) (sym (entry_is w (omega arith)))
+pub entry_parts : (w : List ℕ) → 1 ≤ length w → flat (number (length w) ∷ w ∷ []) ≡ entry w
+entry_parts w h = rw append-nil (sym (entry_is w h))
 
 pub entry_length : (w : List ℕ) → 1 ≤ length w → length (entry w) ≡ length (number (length w)) + length w
 entry_length w h = rw (entry_is w h) (length-append (number (length w)) w)
 
 -- ---- the two parts, written one after the other
 
-module _ (w b : List ℕ) (n : ℕ) (e : n ≡ length w) (some : 1 ≤ n) (fits : length (entry w) ≤ length b) where
-  at_start : Writing (entry w) b b 0 (number n ∷ w ∷ [])
-  at_start = begin _ _ _ (entry_parts w n e some) fits
+module _ (w b : List ℕ) (some : 1 ≤ length w) (fits : length (entry w) ≤ length b) where
+  at_start : Writing (entry w) b b 0 (number (length w) ∷ w ∷ [])
+  at_start = begin _ _ _ (entry_parts w some) fits
 
-  pub number_fits : length (number n) ≤ length b
+  pub number_fits : length (number (length w)) ≤ length b
   number_fits = room₀ at_start
 
-  module _ (b₁ : List ℕ) (at : ℕ) (p : Wrote (number n) b b₁ at) where
-    at_records : Writing (entry w) b b₁ at (w ∷ [])
+  module _ {b₁ : List ℕ} {at : ℕ} (p : Wrote (number (length w)) b b₁ at) where
+    pub at_records : Writing (entry w) b b₁ at (w ∷ [])
     at_records = put_at_lem at_start (over_whole _ _ _ _ p)
 
-    pub records_fit : at + length w ≤ length b₁
-    records_fit = room_at at_records
-
-    pub entry_written : (last : List ℕ) (k : ℕ) → last ≡ w → k ≡ length w
-        → Wrote (entry w) b (take at b₁ ++ (last ++ drop k (drop at b₁))) (at + length w)
-    unfolding overlay overlay_at
-    entry_written last k l m = ended (put_at_lem at_records record { place = refl; bytes = rw (l, m) }) refl
+    pub entry_written : {last : List ℕ} {n : ℕ} → WroteAt w at b₁ last n → Wrote (entry w) b last n
+    entry_written q = ended (put_at_lem at_records q) refl
 
 -- ---- what is written
 

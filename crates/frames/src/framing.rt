@@ -1,22 +1,21 @@
 // What is stored: the heading, and of one event the length of its records, and the records.
 ghost use Rattle.std.specs.Prelude.{◌≡◌, ◌≤◌, length};
+ghost use Rattle.rules.specs.Constants.{batch_limit};
 ghost use Rattle.rules.specs.Journal.{entry, heading};
 ghost use Rattle.numbers.specs.Buffer.{Wrote};
 ghost use Rattle.frames.specs.Forms.{framed, if_room};
 
 use crate::headings::{HEADING, HEADING_LENGTH};
-use numbers::{number_len, put_number};
+use numbers::{number_len, put_all, put_number};
 use rules::BATCH_LIMIT;
 
 // Writes the length of a batch and the batch.
-fn put_entry(buf: &mut [u8], records: &[u8], n: u32) -> usize
-    requires { (n ≡ length records.now) × (1 ≤ n) × (length (entry records.now) ≤ length buf.old) }
+fn put_entry(buf: &mut [u8], records: &[u8]) -> usize
+    requires { (1 ≤ length records.now) × (length records.now ≤ batch_limit) × (length (entry records.now) ≤ length buf.old) }
     ensures { Wrote (entry records.now) buf.old buf.new result }
 {
-    let at = put_number(buf, n);
-    let end = at + records.len();
-    buf[at..end].copy_from_slice(records);
-    end
+    let at = put_number(buf, records.len() as u32);
+    at + put_all(&mut buf[at..], records)
 }
 
 // Writes what a journal stores of an event, the length of its records and the records, and returns how many bytes that is: 0, and nothing is written, if there are
@@ -36,16 +35,16 @@ pub fn frame(records: &[u8], journal: &mut [u8]) -> usize
     if journal.len() < size {
         return 0;
     }
-    put_entry(journal, records, n as u32)
+    put_entry(journal, records)
 }
 
 // Writes the heading and returns how many bytes that is: 0, and nothing is written, if there is no room.
+// As it is: as in `frame`.
 pub fn put_heading(journal: &mut [u8]) -> usize
     ensures { Wrote (if_room heading journal.old) journal.old journal.new result }
 {
     if journal.len() < HEADING_LENGTH {
         return 0;
     }
-    journal[..HEADING_LENGTH].copy_from_slice(&HEADING);
-    HEADING_LENGTH
+    put_all(journal, &HEADING)
 }

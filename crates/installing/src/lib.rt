@@ -21,7 +21,7 @@ fn replace(tables: &mut Tables, target: &[u8; SLOTS])
     ensures holder { tables.new.holder ≡ tables.old.holder }
     ensures waiting { tables.new.waiting ≡ tables.old.waiting }
 {
-    tables.target.copy_from_slice(target);
+    numbers::put_all(&mut tables.target, target);
 }
 
 // An install that no row of the table refuses: the target replaced, and T becomes G.

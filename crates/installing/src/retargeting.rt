@@ -26,9 +26,9 @@ struct Links<'a> {
     target: &'a [u8; SLOTS],
     firsts: [u16; MEMBERS],
     counts: [u16; MEMBERS],
-    nexts: [u16; SLOTS],
+    nexts: &'a [u16; SLOTS],
 
-    ghost linked: { Linked target.now firsts counts nexts },
+    ghost linked: { Linked target.now firsts counts nexts.now },
 }
 
 // Marks the place of a target's entry; an entry that is no place marks nothing.
@@ -57,24 +57,13 @@ fn changed_places(before: &[u8; SLOTS], after: &[u8; SLOTS]) -> [bool; MEMBERS]
     marks
 }
 
-// Writes the bytes to the start of the buffer.
-fn put_bytes(buf: &mut [u8], bytes: &[u8]) -> usize
-    requires { length bytes.now ≤ length buf.old }
-    ensures { Wrote bytes.now buf.old buf.new result }
-{
-    let n = bytes.len();
-    buf[..n].copy_from_slice(bytes);
-    n
-}
-
 impl<'a> Links<'a> {
-    // Links the slots of a target.
-    fn of(target: &'a [u8; SLOTS]) -> Links<'a>
+    // Links the slots of a target, in an array that the caller lends: it is too large to be handed on by value.
+    fn of(target: &'a [u8; SLOTS], nexts: &'a mut [u16; SLOTS]) -> Links<'a>
         ensures { result.target.now ≡ target.now }
     {
         let mut firsts = [SLOT_END; MEMBERS];
         let mut counts = [0u16; MEMBERS];
-        let mut nexts = [SLOT_END; SLOTS];
         for s in (0..SLOTS).rev() {
             let p = target[s] as usize;
             if p < MEMBERS {
@@ -155,7 +144,7 @@ impl<'a> Links<'a> {
         if buf.len() < size {
             return Err(Refusal::Room);
         }
-        Ok(put_bytes(buf, &elsewhere[..size]))
+        Ok(numbers::put_all(buf, &elsewhere[..size]))
     }
 }
 
@@ -169,7 +158,8 @@ pub fn store_install(
     ensures { Stores (all_bytes (install_records (slots_in tables.now) (retargeted (slots_in tables.now) target.now) epoch)) buf.old buf.new result }
 {
     let marks = changed_places(&tables.target, target);
-    let links = Links::of(target);
+    let mut nexts = [SLOT_END; SLOTS];
+    let links = Links::of(target, &mut nexts);
     if buf.len() < MOST {
         return links.store_tight(buf, &marks, epoch);
     }

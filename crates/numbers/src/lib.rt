@@ -1,4 +1,4 @@
-// Numbers in groups of seven bits, and IDs, written into a buffer that the caller lends. Each writer leaves the rest of the buffer as it was.
+// Lists, numbers in groups of seven bits, and IDs, written into a buffer that the caller lends. Each writer leaves the rest of the buffer as it was.
 // What a writer promises is in specs/Buffer.antt; the laws by which writers are put together are in proofs/Writing.antt.
 #![tactic(auto)]
 
@@ -7,6 +7,18 @@ ghost use Rattle.rules.specs.Records.{number};
 ghost use Rattle.numbers.specs.Buffer.{Wrote};
 
 use rules::{ID_LENGTH, Id};
+
+// Writes a list at the start of `buf` and returns how many elements it has.
+// As it is: the form is a loop, since `copy_from_slice` needs `memmove` of a host, and the header says that `memcpy` and `memset` are enough.
+pub fn put_all<T: Copy>(buf: &mut [T], all: &[T]) -> usize
+    requires { length all.now ≤ length buf.old }
+    ensures { Wrote all.now buf.old buf.new result }
+{
+    for i in 0..all.len() {
+        buf[i] = all[i];
+    }
+    all.len()
+}
 
 // Writes `x` at the start of `buf` and returns how many bytes that took.
 pub fn put_number(buf: &mut [u8], x: u32) -> usize

@@ -39,7 +39,7 @@ pub fn hear(
     requires fits { length owned.now ≤ length list.old }
     ensures { Heard group.old p.0 tick epoch owned.now list.old result group.new list.new }
 {
-    list[..owned.len()].copy_from_slice(owned);
+    numbers::put_all(list, owned);
     group.members.hear(p, tick);
     group.head.tick = tick;
     Outcome {

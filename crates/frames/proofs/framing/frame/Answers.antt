@@ -1,6 +1,5 @@
 use Rattle.frames.proofs.Entries.{entry_length, framed_empty, framed_is, framed_large, no_room, nothing_stored, room}
 use native.Mathlib.Omega.{arith}
-use mathlib.Core.Path.{refl}
 use Rattle.frames.proofs.framing.frame.Goals as goal
 
 pub returns-then-n-gt-BATCH_LIMIT : goal.returns-then-n-gt-BATCH_LIMIT
@@ -18,7 +17,7 @@ returns-then-journal-size c =
 pub put_entry-requires : goal.put_entry-requires
 put_entry-requires c =
     let a = c.args in
-    (refl, omega arith, omega (arith, entry_length a.records.now (omega arith), c.number_len.ensures.0))
+    (omega arith, omega arith, omega (arith, entry_length a.records.now (omega arith), c.number_len.ensures.0))
 
 pub returns : goal.returns
 returns c =

@@ -8,7 +8,7 @@ use Rattle.installing.proofs.retargeting.Links.of.Goals as goal
 
 pub loop-s-init : goal.loop-s-init
 loop-s-init c =
-    link_begin _ _ _ _ c.told-target (length-replicate {A = ℕ} max_members slot_count) (length-replicate {A = ℕ} max_members 0) (length-replicate {A = ℕ} slot_count slot_count)
+    link_begin _ _ _ _ c.told-target (length-replicate {A = ℕ} max_members slot_count) (length-replicate {A = ℕ} max_members 0) c.told-nexts
     (λ p h. get_or-replicate max_members p slot_count 0 h) (λ p h. get_or-replicate max_members p 0 0 h)
 
 pub overflow_add-counts : goal.overflow_add-counts

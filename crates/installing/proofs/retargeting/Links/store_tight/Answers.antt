@@ -7,5 +7,5 @@ use Rattle.installing.proofs.retargeting.Links.store_tight.Goals as goal
 pub returns : goal.returns
 returns c =
     let put = c.put_install-size.ensures in
-    let P : List ℕ → Type 0 = λ w. Wrote w c.args.buf.now c.put_bytes.new.buf c.put_bytes.result in
-    (omega (arith, put.count, c.if-buf-size.false), subst P (wrote_part put) c.put_bytes.ensures)
+    let P : List ℕ → Type 0 = λ w. Wrote w c.args.buf.now c.put_all.new.buf c.put_all.result in
+    (omega (arith, put.count, c.if-buf-size.false), subst P (wrote_part put) c.put_all.ensures)
