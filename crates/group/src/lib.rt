@@ -81,3 +81,24 @@ pub fn fresh(tick: u32) -> Group
         tables: Tables::empty(),
     }
 }
+
+impl Group {
+    ghost use Rattle.std.specs.Prelude.{◌≡◌};
+    ghost use Rattle.rules.specs.Group.{fresh};
+    ghost use Rattle.group.specs.View.{view};
+
+    // The group becomes the one that `fresh` makes, where it lies: a second one would take stack.
+    #[tactic(auto, unfolding(rules::specs::Group::fresh, crate::specs::View::view))]
+    pub fn renew(&mut self, tick: u32)
+        ensures { view self.new ≡ fresh tick }
+    {
+        self.head = Head {
+            epoch: 0,
+            target_epoch: 0,
+            tick,
+        };
+        self.members.clear();
+        self.topics.clear();
+        self.tables.clear();
+    }
+}

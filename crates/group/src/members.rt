@@ -73,6 +73,14 @@ impl Members {
         Members { cells: [0; CELLS] }
     }
 
+    // The members become those of `empty`, where they lie.
+    #[tactic(auto, unfolding(rules::specs::Group::fresh, rules::specs::Basics::up_to, crate::specs::Columns::view_members, crate::specs::Columns::view_place, crate::specs::Columns::member_of))]
+    pub fn clear(&mut self)
+        ensures { view_members self.new.cells ≡ (fresh 0).members }
+    {
+        self.cells.fill(0);
+    }
+
     // The place of the member with an ID.
     pub fn find(&self, id: Id) -> Option<Place>
         ensures { Finds (any (is_member id) (view_members self.now.cells)) (find (is_member id) (view_members self.now.cells)) result }

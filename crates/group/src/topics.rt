@@ -34,6 +34,15 @@ impl Topics {
         }
     }
 
+    // The topics become those of `empty`, where they lie.
+    #[tactic(auto, unfolding(rules::specs::Group::fresh, rules::specs::Basics::up_to, crate::specs::View::view_topics, crate::specs::View::view_topic))]
+    pub fn clear(&mut self)
+        ensures { topics_in self.new ≡ (fresh 0).topics }
+    {
+        self.ids.fill(0);
+        self.counts.fill(0);
+    }
+
     // The count of a number.
     fn count_at(&self, number: u32) -> u8
         ensures { result ≡ slice_index self.now.counts number }

@@ -42,7 +42,7 @@ fn read_batches(group: &mut Group, tick: u32, bytes: &[u8], start: usize) -> Res
 pub fn read(group: &mut Group, tick: u32, bytes: &[u8]) -> Result<(), Damage>
     ensures { (reading_as result group.new ≡ read_journal tick bytes.now) × JournalTheorems }
 {
-    *group = group::fresh(tick);
+    group.renew(tick);
     frames::read_heading(bytes)?;
     read_batches(group, tick, bytes, HEADING_LENGTH)
 }

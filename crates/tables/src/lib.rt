@@ -39,4 +39,12 @@ impl Tables {
             waiting: [false; SLOTS],
         }
     }
+    // The tables become those of `empty`, where they lie.
+    pub fn clear(&mut self)
+        ensures { slots_in self.new ≡ (fresh 0).slots }
+    {
+        self.target.fill(NO_PLACE);
+        self.holder.fill(NO_PLACE);
+        self.waiting.fill(false);
+    }
 }

@@ -12,7 +12,7 @@ unfolding reading_as
 returns-in_err-read_heading c =
     let a = c.args in
     let p = err_from_is_err_and c.from_residual.result c.from_residual.ensures.1 in (
-      (λ i. record { group = c.fresh.ensures i; verdict = verdict_as ((p.1 ∙ ap Err p.2) i) })
+      (λ i. record { group = c.renew.ensures i; verdict = verdict_as ((p.1 ∙ ap Err p.2) i) })
           ∙ unheaded a.bytes.now a.tick _ c.read_heading.ensures _ c.in_err-read_heading.was,
       journal_theorems,
     )
@@ -23,7 +23,7 @@ returns c =
     let a = c.args in
     let rest = drop (length heading) a.bytes.now in (
       c.read_batches.ensures
-          ∙ ap (λ (g : Group). read_batches (suc (length rest)) a.tick (length heading) g rest) c.fresh.ensures
+          ∙ ap (λ (g : Group). read_batches (suc (length rest)) a.tick (length heading) g rest) c.renew.ensures
           ∙ opened a.bytes.now a.tick _ c.read_heading.ensures _ c.in_ok-read_heading.was,
       journal_theorems,
     )
