@@ -1,4 +1,4 @@
--- A batch read record by record: its records are those taken so far and those from the place on.
+-- A batch read record by record: its records are those taken so far and those that are left.
 use Rattle.std.specs.Prelude.{if◌then◌else◌}
 use mathlib.Core.Path.{◌≡◌, refl, sym, ap, ◌∙◌}
 use mathlib.Core.Bool.{Bool, true, false, ◌&&◌}
@@ -12,6 +12,10 @@ use Rattle.rules.specs.Records.{Record, fits, placed}
 use Rattle.rules.specs.Reader.{joined, read_all}
 use Rattle.reading.specs.Fitting.{read_fitting, read_fitting_all}
 use Rattle.reading.proofs.Walking.{walk_ends, walk_goes, walk_stops}
+use Rattle.reading.specs.Views.{view_record}
+use Rattle.reading.specs.Walk.{rest, YieldsRecord}
+use Rattle.reading.specs.declared.Record as Code
+use Rattle.reading.specs.declared.batch.Records.{Records}
 use Rattle.batches.specs.declared.Gathered.{Gathered}
 use Rattle.batches.specs.Gathered.{kept, fitting, Says}
 use Rattle.batches.specs.Adding.{Holds, Takes}
@@ -72,11 +76,11 @@ whose_joined a (some rs) = go (placed a) (all placed rs)
 -- ---- from a place on
 
 module _ (s : List ℕ) (at : ℕ) where
-  fit_goes : (a : Record) (next : ℕ) → at < length s → read_fitting (drop at s) ≡ some (a, drop next s)
-      → fitting (drop at s) ≡ (if placed a then joined a (fitting (drop next s)) else none)
-  fit_goes a next l e =
-      fitting_is (drop at s) ∙ ap whose (walk_goes s at a next l e) ∙ whose_joined a (read_fitting_all (drop next s))
-      ∙ ap (λ (o : Option (List Record)). if placed a then joined a o else none) (sym (fitting_is (drop next s)))
+  fit_goes : (a : Record) (b : List ℕ) → at < length s → read_fitting (drop at s) ≡ some (a, b)
+      → fitting (drop at s) ≡ (if placed a then joined a (fitting b) else none)
+  fit_goes a b l e =
+      fitting_is (drop at s) ∙ ap whose (walk_goes s at a b l e) ∙ whose_joined a (read_fitting_all b)
+      ∙ ap (λ (o : Option (List Record)). if placed a then joined a o else none) (sym (fitting_is b))
 
   fit_stops : at < length s → read_fitting (drop at s) ≡ none → fitting (drop at s) ≡ none
   fit_stops l e = fitting_is (drop at s) ∙ ap whose (walk_stops s at l e)
@@ -98,42 +102,51 @@ unfolding joined
 after_joined rs a none = refl
 after_joined rs a (some more) = ap some (sym (append_assoc rs (a ∷ []) more))
 
-pub record Going (s : List ℕ) (at : ℕ) (r : Gathered) (t : List Bool) (e₀ e : List ℕ) : Type 0 where
+-- the records taken from the bytes s and those that the walk w has still to give
+pub record Going (s : List ℕ) (w : Records) (r : Gathered) (t : List Bool) (e₀ e : List ℕ) : Type 0 where
   pub records : List Record
-  pub read : fitting s ≡ after records (fitting (drop at s))
+  pub read : fitting s ≡ after records (fitting (rest w))
   pub holds : Holds records r t e₀ e
 
-pub going_begins : {s : List ℕ} {r : Gathered} {t : List Bool} {e : List ℕ} → Holds [] r t e e → Going s 0 r t e e
-going_begins {s} h = record { records = []; read = after_nothing (fitting s); holds = h }
+pub going_begins : {s : List ℕ} {w : Records} {r : Gathered} {t : List Bool} {e : List ℕ} → rest w ≡ s → Holds [] r t e e → Going s w r t e e
+going_begins {s} {w} b h = record { records = []; read = after_nothing (fitting s) ∙ ap (λ (l : List ℕ). after [] (fitting l)) (sym b); holds = h }
 
-module _ {s : List ℕ} {at : ℕ} {r : Gathered} {t : List Bool} {e₀ e : List ℕ} (g : Going s at r t e₀ e) where
-  -- from the place on nothing is a batch, and so nothing is
-  stuck : fitting (drop at s) ≡ none → fitting s ≡ none
+module _ {s : List ℕ} {w : Records} {r : Gathered} {t : List Bool} {e₀ e : List ℕ} (g : Going s w r t e₀ e) where
+  -- what is left is no batch, and so nothing is
+  stuck : fitting (rest w) ≡ none → fitting s ≡ none
   stuck e = g.read ∙ ap (after g.records) e
 
-  pub going_cut : at < length s → read_fitting (drop at s) ≡ none → fitting s ≡ none
-  going_cut l e = stuck (fit_stops s at l e)
+  pub going_cut : (o : P.Option Code.Record) (w' : Records) → YieldsRecord w (P.Some o) w' → o ≡ P.None → fitting s ≡ none
+  going_cut P.None w' y n = stuck (fit_stops w.bytes.now w.at y.0 y.1)
+  going_cut (P.Some a) w' y n = cc
 
-  module _ (a : Record) (next : ℕ) (l : at < length s) (first : read_fitting (drop at s) ≡ some (a, drop next s)) where
-    goes : (b : Bool) → placed a ≡ b → fitting (drop at s) ≡ (if b then joined a (fitting (drop next s)) else none)
-    goes b p = fit_goes s at a next l first ∙ ap (λ (b : Bool). if b then joined a (fitting (drop next s)) else none) p
+  module _ (a : Code.Record) (w' : Records) (y : YieldsRecord w (P.Some (P.Some a)) w') where
+    goes : (b : Bool) → placed (view_record a) ≡ b → fitting (rest w) ≡ (if b then joined (view_record a) (fitting (rest w')) else none)
+    goes b p =
+        fit_goes w.bytes.now w.at (view_record a) (rest w') y.0 y.1
+        ∙ ap (λ (b : Bool). if b then joined (view_record a) (fitting (rest w')) else none) p
 
-    pub going_lost : placed a ≡ false → fitting s ≡ none
-    going_lost p = stuck (goes false p)
+    lost : placed (view_record a) ≡ false → fitting s ≡ none
+    lost p = stuck (goes false p)
 
-    pub going_on : (r' : Gathered) (t' : List Bool) (e' : List ℕ) → Takes a r (P.Some r') t t' e e' → Going s next r' t' e₀ e'
+    pub going_on : (r' : Gathered) (t' : List Bool) (e' : List ℕ) → Takes (view_record a) r (P.Some r') t t' e e' → Going s w' r' t' e₀ e'
     going_on r' t' e' k = record {
-      records = g.records ++ a ∷ [];
-      read = g.read ∙ ap (after g.records) (goes true k.0) ∙ after_joined g.records a (fitting (drop next s));
+      records = g.records ++ view_record a ∷ [];
+      read = g.read ∙ ap (after g.records) (goes true k.0) ∙ after_joined g.records (view_record a) (fitting (rest w'));
       holds = k.1 g.records e₀ g.holds;
     }
 
-  pub going_ends : length s ≤ at → Says s r t e₀ e
+  pub going_lost : (o : P.Option Code.Record) (w' : Records) (a : Code.Record) → YieldsRecord w (P.Some o) w' → o ≡ P.Some a
+      → placed (view_record a) ≡ false → fitting s ≡ none
+  going_lost P.None w' a y e p = cc
+  going_lost (P.Some b) w' a y e p = let same : b ≡ a = cc in lost b w' y (ap (λ r. placed (view_record r)) same ∙ p)
+
+  pub going_ends : length w.bytes.now ≤ w.at → Says s r t e₀ e
   going_ends l =
       let h = g.holds in
       record {
         records = g.records;
-        read = g.read ∙ ap (after g.records) (fit_ends s at l) ∙ ap some (append-nil g.records);
+        read = g.read ∙ ap (after g.records) (fit_ends w.bytes.now w.at l) ∙ ap some (append-nil g.records);
         epoch = h.epoch;
         topic = h.topic;
         member = h.member;

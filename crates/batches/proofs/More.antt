@@ -10,11 +10,15 @@ use native.Mathlib.Omega.{arith}
 use lib.ListN.{length, get_or, set, replicate, get_or-replicate}
 use lib.Seq.{get_or-set_same, get_or-set_other}
 use lib.Dec.{eqb, ltb}
-use borrow.Author.Tests.{eq-eqb, ne_eqb, ltb-true}
+use borrow.Author.Tests.{eq-eqb, ne_eqb, lt-ltb, le-ltb}
 use Rattle.std.specs.Prelude as P
 use Rattle.std.specs.Option.{option_or}
+use Rattle.std.specs.Prelude.{OkIff, Result}
+use Rattle.std.specs.Result.{result_ok}
 use Rattle.rules.specs.Basics.{any, concat_map, empty, first_some, given, or_else, to_list}
 use Rattle.rules.specs.Constants.{max_members}
+use Rattle.rules.specs.declared.Place.{Place}
+use Rattle.rules.specs.declared.NoPlace.{NoPlace}
 use Rattle.rules.specs.Records.{Record, CurrentAssignment, TargetAssignment, parts_of, placed, target_is, current_gone}
 use Rattle.rules.specs.Ledger.{gone}
 use Rattle.rules.specs.Batches.{current_in, targets_in, laid_over}
@@ -22,6 +26,7 @@ use Rattle.batches.specs.declared.Gathered.{Gathered}
 use Rattle.batches.specs.Gathered.{maybe, standing}
 use Rattle.batches.specs.Adding.{Adds, Holds, Takes}
 use Rattle.batches.proofs.Lists.{any_append}
+use Rattle.batches.proofs.Places.{place_of, no_place_of}
 
 -- ---- what is added
 
@@ -135,22 +140,13 @@ pub record There (p q : ℕ) : Type 0 where
   pub same : q ≡ p
   pub below : q < max_members
 
-pub there : (p q : ℕ) → P.Some q ≡ (if ltb p max_members then P.Some p else P.None) → There p q
-there p q h = go (ltb p max_members) refl h
-  where
-    go : (b : Bool) → ltb p max_members ≡ b → P.Some q ≡ (if b then P.Some p else P.None) → There p q
-    go true e h =
-        let same : q ≡ p = cc in
-        let below : p < max_members = ltb-true p max_members e in
-        record { placed = rw e; same = same; below = omega arith }
-    go false e h = cc
+pub there : (p : ℕ) (r : Result Place NoPlace) (q : Place) → OkIff r (p < max_members) (record { 0 = p }) → P.Some q ≡ result_ok r → There p q.0
+there p r q h e =
+    let at = place_of p r h q e in
+    record { placed = rw (lt-ltb p max_members at.1); same = at.0; below = omega (arith, at) }
 
-pub nowhere : (p : ℕ) → P.None ≡ (if ltb p max_members then P.Some p else P.None) → (ltb p max_members && true) ≡ false
-nowhere p h = go (ltb p max_members) refl h
-  where
-    go : (b : Bool) → ltb p max_members ≡ b → P.None ≡ (if b then P.Some p else P.None) → (ltb p max_members && true) ≡ false
-    go true e h = cc
-    go false e h = rw e
+pub nowhere : (p : ℕ) (r : Result Place NoPlace) → OkIff r (p < max_members) (record { 0 = p }) → P.None ≡ result_ok r → (ltb p max_members && true) ≡ false
+nowhere p r h e = rw (le-ltb p max_members (no_place_of p r h e))
 
 module _ {r r' : Gathered} {t t' : List Bool} {e e' : List ℕ} where
   pub taken : (a : Record) → placed a ≡ true → Adds a r r' → MarksOne t t' (parts_of a).member_gone

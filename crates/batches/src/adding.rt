@@ -1,28 +1,14 @@
 // One record more: of each kind the first counts.
 #![tactic(auto, using(crate::proofs::More::adding), unfolding(rules::specs::Records::parts_of, crate::specs::Gathered::standing))]
 
-ghost use Rattle.std.specs.Prelude.{◌≡◌, List, ℕ, ltb, None, Some, if◌then◌else◌};
-ghost use Rattle.rules.specs.Constants.{max_members};
+ghost use Rattle.std.specs.Prelude.{List, ℕ};
 ghost use Rattle.rules.specs.Records.{group_epoch, topic_is, member_is, member_gone, target_epoch, current_is};
 ghost use Rattle.reading.specs.Views.{view_record};
 ghost use Rattle.batches.specs.Adding.{Adds, Takes};
 
 use crate::{Gathered, laying};
 use reading::{Member, Record, Topic};
-use rules::{MEMBERS, SLOTS};
-
-// A place is below this.
-const PLACE_END: u32 = MEMBERS as u32;
-
-// The place of this number, where there is one.
-fn place(p: u32) -> Option<u8>
-    ensures { result ≡ (if ltb p max_members then Some p else None) }
-{
-    if p < PLACE_END {
-        return Some(p as u8);
-    }
-    None
-}
+use rules::{MEMBERS, Place, SLOTS};
 
 impl Gathered {
     pub fn with_epoch(self, n: u32) -> Gathered
@@ -83,34 +69,36 @@ impl Gathered {
     #[tactic(auto, using(crate::proofs::More::nowhere), unfolding(rules::specs::Records::placed, rules::specs::Records::places_of))]
     pub fn take(
         self,
-        record: &Record,
+        read: &Record,
         gone: &mut [bool; MEMBERS],
         entries: &mut [u8; SLOTS],
     ) -> Option<Gathered>
-        ensures { Takes (view_record record.now) self result gone.old gone.new entries.old entries.new }
+        ensures { Takes (view_record read.now) self result gone.old gone.new entries.old entries.new }
     {
-        match *record {
+        match *read {
             Record::GroupEpoch(n) => Some(self.with_epoch(n)),
             Record::Topic(t) => Some(self.with_topic(t)),
             Record::Member(m) => {
-                place(m.place)?;
+                Place::try_from(m.place).ok()?;
                 Some(self.with_member(m))
             }
             Record::MemberGone(p) => {
-                gone[place(p)? as usize] = true;
+                let place = Place::try_from(p).ok()?;
+                gone[place.0 as usize] = true;
                 Some(self.with_gone())
             }
             Record::TargetEpoch(n) => Some(self.with_target_epoch(n)),
             Record::Target(t) => {
-                laying::lay(entries, place(t.place)?, t.slots);
+                let place = Place::try_from(t.place).ok()?;
+                laying::lay(entries, place.0, t.slots);
                 Some(self)
             }
             Record::Current(c) => {
-                place(c.place)?;
+                Place::try_from(c.place).ok()?;
                 Some(self.with_current(c.place, c.epoch))
             }
             Record::CurrentGone(p) => {
-                place(p)?;
+                Place::try_from(p).ok()?;
                 Some(self)
             }
         }

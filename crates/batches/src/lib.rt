@@ -3,7 +3,7 @@
 
 ghost use Rattle.batches.specs.Gathered.{Gathers};
 
-use reading::{Member, Topic};
+use reading::{Member, Records, Topic};
 use rules::{MEMBERS, SLOTS};
 
 mod adding; // adding.rt: one record more
@@ -45,12 +45,8 @@ pub fn gather(
         target_epoch: None,
         current: None,
     };
-    let mut at: usize = 0;
-    // As it is: a `for` is no plainer, since the next place is where this record ends.
-    while at < batch.len() {
-        let (record, next) = reading::read_record(batch, at)?;
-        found = found.take(&record, gone, entries)?;
-        at = next;
+    for record in Records::new(batch) {
+        found = found.take(&record?, gone, entries)?;
     }
     Some(found)
 }

@@ -16,7 +16,7 @@ use events::Request;
 use group::members::Members;
 use group::{SUBSCRIPTIONS, Seat};
 use reading::Member;
-use rules::{CLOCK_LIMIT, LAST_EPOCH, MEMBERS, Place};
+use rules::{CLOCK_LIMIT, LAST_EPOCH, Place};
 
 // Whether a record 8 has the epoch of a record 3: then its member has joined.
 fn is_join(said: Gathered) -> bool
@@ -105,10 +105,7 @@ fn ordinary(seat: Seat, timeout: u32, subscription: u32, moves: bool, tick: u32)
 fn seat_of(members: &Members, place: u32) -> Option<Seat>
     ensures { view_seat result ≡ get_or (view_members members.now.cells) place none }
 {
-    if (place as usize) < MEMBERS {
-        return members.seat_at(Place(place as u8));
-    }
-    None
+    members.seat_at(Place::try_from(place).ok()?)
 }
 
 // The heartbeat that the records say, if its numbers fit; records without a 5 and an 8 are of none.

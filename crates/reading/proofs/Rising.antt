@@ -10,7 +10,7 @@ use native.Mathlib.Numerals.{add-one}
 use native.Mathlib.Omega.{arith}
 use lib.Bits.{bit_or}
 use lib.Dec.{eqb, ltb, leb}
-use lib.ListN.{length, get_or, set, drop, length-set}
+use lib.ListN.{length, get_or, set, length-set}
 use borrow.Author.Tests.{eq-eqb, ne_eqb, ltb-true, leb-true}
 use Rattle.std.specs.Prelude as P
 use Rattle.rules.specs.Basics.{keep, up_to}
@@ -101,80 +101,74 @@ slot_good low x slot e = pick (slot_from low x) refl e
 
 -- ---- the loop
 
--- of the slots of the set at the place `first` those read so far are the front, all below `low`; the bytes from `at` on say the `left` others
-pub record Rising (s : List ℕ) (first : ℕ) (ws : List ℕ) (low from at left : ℕ) : Type 0 where
-  pub reads : set32 (drop first s) ≡ prefixed (select (has ws) 0 low) (rising_slots left low from (drop at s))
+-- of the slots of the set that the bytes b begin with those read so far are the front, all below `low`; the bytes b' say the `left` others
+pub record Rising (b : List ℕ) (ws : List ℕ) (low from : ℕ) (b' : List ℕ) (left : ℕ) : Type 0 where
+  pub reads : set32 b ≡ prefixed (select (has ws) 0 low) (rising_slots left low from b')
   pub long : length ws ≡ word_count
   pub above : (x : ℕ) → low ≤ x → has ws x ≡ false
   pub low_slot : low ≤ slot_count
-  pub ahead : first < at
-  pub within : at ≤ length s
 
-pub rising_start : {s : List ℕ} {first n at : ℕ} (ws : List ℕ) → number32 (drop first s) ≡ some (n, drop at s) → first < at → at ≤ length s
-    → length ws ≡ word_count → ((x : ℕ) → has ws x ≡ false) → Rising s first ws 0 0 at n
+pub rising_start : {b b' : List ℕ} {n : ℕ} (ws : List ℕ) → number32 b ≡ some (n, b') → length ws ≡ word_count → ((x : ℕ) → has ws x ≡ false)
+    → Rising b ws 0 0 b' n
 unfolding set32 keep up_to
-rising_start {s} {first} {n} {at} ws r a w e z = record {
-  reads = goes_on _ _ r ∙ prefixed_nil (rising_slots n 0 0 (drop at s));
+rising_start {b} {b'} {n} ws r e z = record {
+  reads = goes_on _ _ r ∙ prefixed_nil (rising_slots n 0 0 b');
   long = e;
   above = λ x p. z x;
   low_slot = omega arith;
-  ahead = a;
-  within = w;
 }
 
 -- the number of the slots is missing
-pub rising_none : (s : List ℕ) (first : ℕ) → number32 (drop first s) ≡ none → set32 (drop first s) ≡ none
+pub rising_none : (b : List ℕ) → number32 b ≡ none → set32 b ≡ none
 unfolding set32
-rising_none s first e = stops _ _ e
+rising_none b e = stops _ _ e
 
-module _ {s : List ℕ} {first : ℕ} {ws : List ℕ} {low from at left : ℕ} (r : Rising s first ws low from at left) where
-  -- what the bytes from `at` on say
-  by : {o : Result} → rising_slots left low from (drop at s) ≡ o → set32 (drop first s) ≡ prefixed (select (has ws) 0 low) o
+module _ {b : List ℕ} {ws : List ℕ} {low from : ℕ} {b' : List ℕ} {left : ℕ} (r : Rising b ws low from b' left) where
+  -- what the bytes b' say
+  by : {o : Result} → rising_slots left low from b' ≡ o → set32 b ≡ prefixed (select (has ws) 0 low) o
   by e = r.reads ∙ ap (prefixed (select (has ws) 0 low)) e
 
   -- a difference is missing
-  pub rising_cut : 0 < left → number32 (drop at s) ≡ none → set32 (drop first s) ≡ none
+  pub rising_cut : 0 < left → number32 b' ≡ none → set32 b ≡ none
   unfolding prefixed rising_slots
   rising_cut h e =
       let k : left ≡ suc (left - 1) = omega arith in
-      by (ap (λ (n : ℕ). rising_slots n low from (drop at s)) k ∙ stops _ _ e)
+      by (ap (λ (n : ℕ). rising_slots n low from b') k ∙ stops _ _ e)
 
-  module _ (d next less : ℕ) (k : left ≡ suc less) (e : number32 (drop at s) ≡ some (d, drop next s)) where
-    goes : rising_slots left low from (drop at s)
-        ≡ (if slot_from low (from + d) then (rising_slots less (suc (from + d)) (from + d) >>= λ l. pure ((from + d) ∷ l)) else refuse) (drop next s)
+  module _ (d less : ℕ) (b'' : List ℕ) (k : left ≡ suc less) (e : number32 b' ≡ some (d, b'')) where
+    goes : rising_slots left low from b'
+        ≡ (if slot_from low (from + d) then (rising_slots less (suc (from + d)) (from + d) >>= λ l. pure ((from + d) ∷ l)) else refuse) b''
     unfolding rising_slots
-    goes = ap (λ (n : ℕ). rising_slots n low from (drop at s)) k ∙ goes_on _ _ e
+    goes = ap (λ (n : ℕ). rising_slots n low from b') k ∙ goes_on _ _ e
 
-    pub rising_more : (slot : ℕ) → P.Some slot ≡ (if slot_from low (from + d) then P.Some (from + d) else P.None) → at < next → next ≤ length s
-        → Rising s first (marked ws slot) (slot + 1) slot next less
+    pub rising_more : (slot : ℕ) → P.Some slot ≡ (if slot_from low (from + d) then P.Some (from + d) else P.None)
+        → Rising b (marked ws slot) (slot + 1) slot b'' less
     unfolding ◌>>=◌
-    rising_more slot f a w =
+    rising_more slot f =
         let x = from + d in
         let good = slot_good low x slot f in
         let marks = has_marked ws x (omega (arith, r.long, good.below)) in
-        subst (λ (y : ℕ). Rising s first (marked ws y) (y + 1) y next less) (sym good.is) (record {
+        subst (λ (y : ℕ). Rising b (marked ws y) (y + 1) y b'' less) (sym good.is) (record {
           reads =
-              by (goes ∙ rw good.passes) ∙ moved (select (has ws) 0 low) x (rising_slots less (suc x) x (drop next s))
-              ∙ ap₂ (λ (l : List ℕ) (n : ℕ). prefixed l (rising_slots less n x (drop next s)))
+              by (goes ∙ rw good.passes) ∙ moved (select (has ws) 0 low) x (rising_slots less (suc x) x b'')
+              ∙ ap₂ (λ (l : List ℕ) (n : ℕ). prefixed l (rising_slots less n x b''))
               (sym (select_more (has ws) (has (marked ws x)) low x good.above r.above marks)) (sym (add-one x));
           long = simp length-set r.long;
           above = λ y p. marks y ∙ ap₂ ◌||◌ (r.above y (omega (arith, good.above))) (ne_eqb y x (λ (q : y ≡ x). omega arith));
           low_slot = omega (arith, good.below);
-          ahead = omega (arith, r.ahead);
-          within = w;
         })
 
   -- a slot is none, or below the one before
-  pub rising_bad : (d next : ℕ) → 0 < left → number32 (drop at s) ≡ some (d, drop next s)
-      → P.None ≡ (if slot_from low (from + d) then P.Some (from + d) else P.None) → set32 (drop first s) ≡ none
+  pub rising_bad : (d : ℕ) (b'' : List ℕ) → 0 < left → number32 b' ≡ some (d, b'')
+      → P.None ≡ (if slot_from low (from + d) then P.Some (from + d) else P.None) → set32 b ≡ none
   unfolding prefixed refuse
-  rising_bad d next h e f = by {o = none} (goes d next (left - 1) (omega arith) e ∙ rw (slot_wrong _ _ f))
+  rising_bad d b'' h e f = by {o = none} (goes d (left - 1) b'' (omega arith) e ∙ rw (slot_wrong _ _ f))
 
-  pub rising_ends : left ≡ 0 → set32 (drop first s) ≡ some (slots_of ws, drop at s)
+  pub rising_ends : left ≡ 0 → set32 b ≡ some (slots_of ws, b')
   unfolding rising_slots prefixed pure
   rising_ends e =
-      by (ap (λ (n : ℕ). rising_slots n low from (drop at s)) e)
-      ∙ ap (λ (l : List ℕ). some (l, drop at s)) (append-nil (select (has ws) 0 low) ∙ select_all ws low r.low_slot r.above)
+      by (ap (λ (n : ℕ). rising_slots n low from b') e)
+      ∙ ap (λ (l : List ℕ). some (l, b')) (append-nil (select (has ws) 0 low) ∙ select_all ws low r.low_slot r.above)
 
 -- what the steps of the loop come to
 pub ruleset by_slots = (rising_start, rising_none, rising_cut, rising_bad, rising_more, rising_ends)

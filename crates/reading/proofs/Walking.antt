@@ -179,12 +179,11 @@ walk_ends s at h = ap read_fitting_all (drop_of_length-le s h) ∙ fitting_none
 walk_more : (s : List ℕ) (at : ℕ) → at < length s → read_fitting_all (drop at s) ≡ and_more (read_fitting (drop at s)) read_fitting_all
 walk_more s at h = rw (drop-cons s at 0 h) (fitting_more _ _)
 
--- the record at a place is the first of those from there on, and the others stand from the place after it on
+-- the record at a place is the first of those from there on, and what is read of the bytes after it are the others
 module _ (s : List ℕ) (at : ℕ) where
-  pub walk_goes : (x : Record) (next : ℕ) → at < length s → read_fitting (drop at s) ≡ some (x, drop next s)
-      → read_fitting_all (drop at s) ≡ joined x (read_fitting_all (drop next s))
+  pub walk_goes : (x : Record) (b : List ℕ) → at < length s → read_fitting (drop at s) ≡ some (x, b) → read_fitting_all (drop at s) ≡ joined x (read_fitting_all b)
   unfolding and_more
-  walk_goes x next l e = walk_more s at l ∙ ap (λ (o : Option (Record × List ℕ)). and_more o read_fitting_all) e
+  walk_goes x b l e = walk_more s at l ∙ ap (λ (o : Option (Record × List ℕ)). and_more o read_fitting_all) e
 
   pub walk_stops : at < length s → read_fitting (drop at s) ≡ none → read_fitting_all (drop at s) ≡ none
   unfolding and_more

@@ -1,4 +1,4 @@
-// The fields of a record, each read at a place: a number in groups of seven bits, a byte, an ID, a set of slots. With each comes the place after it.
+// The fields of a record, each read at the cursor: a number in groups of seven bits, a byte, an ID, a set of slots.
 ghost use Rattle.std.specs.Prelude.{◌≡◌, ◌+◌, None, Some, if◌then◌else◌};
 ghost use Rattle.rules.specs.Constants.{id_length};
 ghost use Rattle.rules.specs.Reader.{byte, read_bytes};
@@ -15,51 +15,81 @@ const LARGE_WEIGHT: u64 = 33554432;
 // Slots are below this.
 const SLOT_RANGE: u32 = SLOTS as u32;
 
-// The number at the place `at`, in the fewest groups.
-#[tactic(auto, using(crate::proofs::Groups::by_groups))]
-pub fn number(s: &[u8], at: usize) -> Option<(u32, usize)>
-    ensures { Finds number32 (λ n. n) s.now at result }
-{
-    // what the groups so far come to, and what the next one counts
-    let mut low: u64 = 0;
-    let mut weight: u64 = 1;
-    for i in at..s.len() {
-        let b = s[i] as u64;
-        if b < 128 {
-            // a last group of 0 is there for nothing
-            if b == 0 && 1 < weight {
+// A place in the bytes: where the next field is read. A field that is found is passed over.
+#[derive(Clone, Copy)]
+pub struct Cursor<'a> {
+    pub bytes: &'a [u8],
+    pub at: usize,
+}
+
+impl<'a> Cursor<'a> {
+    // A number, in the fewest groups.
+    #[tactic(auto, using(crate::proofs::Groups::by_groups))]
+    pub fn number(&mut self) -> Option<u32>
+        ensures { Finds number32 (λ n. n) self.old result self.new }
+    {
+        // what the groups so far come to, and what the next one counts
+        let mut low: u64 = 0;
+        let mut weight: u64 = 1;
+        for i in self.at..self.bytes.len() {
+            let b = self.bytes[i] as u64;
+            if b < 128 {
+                // a last group of 0 is there for nothing
+                if b == 0 && 1 < weight {
+                    return None;
+                }
+                let n = u32::try_from(b * weight + low).ok()?;
+                self.at = i + 1;
+                return Some(n);
+            }
+            if LARGE_WEIGHT <= weight {
                 return None;
             }
-            let n = u32::try_from(b * weight + low).ok()?;
-            return Some((n, i + 1));
+            low += (b - 128) * weight;
+            weight *= 128;
         }
-        if LARGE_WEIGHT <= weight {
-            return None;
-        }
-        low += (b - 128) * weight;
-        weight *= 128;
+        None
     }
-    None
-}
 
-// The byte at the place `at`.
-#[tactic(auto, using(crate::proofs::Bytes::byte_here, crate::proofs::Bytes::byte_past))]
-pub fn byte(s: &[u8], at: usize) -> Option<(u8, usize)>
-    ensures { Finds byte (λ b. b) s.now at result }
-{
-    let b = *s.get(at)?;
-    Some((b, at + 1))
-}
+    // A byte, as it is.
+    #[tactic(auto, using(crate::proofs::Bytes::byte_here, crate::proofs::Bytes::byte_past))]
+    pub fn byte(&mut self) -> Option<u8>
+        ensures { Finds byte (λ b. b) self.old result self.new }
+    {
+        let b = *self.bytes.get(self.at)?;
+        self.at += 1;
+        Some(b)
+    }
 
-// The ID at the place `at`.
-#[tactic(auto, using(crate::proofs::Bytes::bytes_past))]
-pub fn id(s: &[u8], at: usize) -> Option<(Id, usize)>
-    ensures { Finds (read_bytes id_length) (λ id. id) s.now at result }
-{
-    let bytes = s.get(at..)?.get(..ID_LENGTH)?;
-    let mut id = [0; ID_LENGTH];
-    id.copy_from_slice(bytes);
-    Some((id, at + ID_LENGTH))
+    // An ID: sixteen bytes.
+    #[tactic(auto, using(crate::proofs::Bytes::bytes_past))]
+    pub fn id(&mut self) -> Option<Id>
+        ensures { Finds (read_bytes id_length) (λ id. id) self.old result self.new }
+    {
+        let id = self.bytes.get(self.at..)?.first_chunk()?;
+        self.at += ID_LENGTH;
+        Some(*id)
+    }
+
+    // A set of slots: their number, and the difference of each from the one before.
+    #[tactic(auto, using(crate::proofs::Rising::by_slots))]
+    pub fn set(&mut self) -> Option<SlotSet>
+        ensures { Finds set32 (λ set. slots_of set.words) self.old result self.new }
+    {
+        let n = self.number()?;
+        let mut set = SlotSet::empty();
+        let mut low = 0;
+        let mut from = 0;
+        for _ in 0..n {
+            let d = self.number()?;
+            let slot = slot_after(low, from, d)?;
+            let word = (slot / 64) as usize;
+            set.words[word] |= 1 << (slot % 64);
+            low = slot + 1;
+            from = slot;
+        }
+        Some(set)
+    }
 }
 
 // The slot that comes `d` after `from`, where it is one and not below `low`.
@@ -68,25 +98,4 @@ fn slot_after(low: u32, from: u32, d: u32) -> Option<u32>
 {
     let slot = from.checked_add(d)?;
     (low <= slot && slot < SLOT_RANGE).then_some(slot)
-}
-
-// The set of slots at the place `at`: their number, and the difference of each from the one before.
-#[tactic(auto, using(crate::proofs::Rising::by_slots))]
-pub fn set(s: &[u8], at: usize) -> Option<(SlotSet, usize)>
-    ensures { Finds set32 (λ set. slots_of set.words) s.now at result }
-{
-    let (n, mut end) = number(s, at)?;
-    let mut set = SlotSet::empty();
-    let mut low = 0;
-    let mut from = 0;
-    for _ in 0..n {
-        let (d, next) = number(s, end)?;
-        let slot = slot_after(low, from, d)?;
-        let word = (slot / 64) as usize;
-        set.words[word] |= 1 << (slot % 64);
-        low = slot + 1;
-        from = slot;
-        end = next;
-    }
-    Some((set, end))
 }

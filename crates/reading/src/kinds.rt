@@ -5,111 +5,110 @@ ghost use Rattle.reading.specs.Narrow.{epoch32, topic32, present32, member32, ta
 ghost use Rattle.reading.specs.Places.{Finds};
 ghost use Rattle.reading.specs.Views.{view_record};
 
-use crate::{Current, Member, Record, Target, Topic, fields};
+use crate::fields::Cursor;
+use crate::{Current, Member, Record, Target, Topic};
 
-// The record at the place `at`: its kind and what follows.
-pub fn record(s: &[u8], at: usize) -> Option<(Record, usize)>
-    ensures { Finds record32 view_record s.now at result }
-{
-    let (kind, at) = fields::byte(s, at)?;
-    match kind {
-        3 => group_epoch(s, at),
-        4 => topic(s, at),
-        5 => member(s, at),
-        6 => target_epoch(s, at),
-        7 => target(s, at),
-        8 => current(s, at),
-        _ => None,
+impl<'a> Cursor<'a> {
+    // A record: its kind and what follows.
+    pub fn record(&mut self) -> Option<Record>
+        ensures { Finds record32 view_record self.old result self.new }
+    {
+        let kind = self.byte()?;
+        match kind {
+            3 => self.group_epoch(),
+            4 => self.topic(),
+            5 => self.member(),
+            6 => self.target_epoch(),
+            7 => self.target(),
+            8 => self.current(),
+            _ => None,
+        }
     }
-}
 
-// 3: G.
-fn group_epoch(s: &[u8], at: usize) -> Option<(Record, usize)>
-    ensures { Finds epoch32 view_record s.now at result }
-{
-    let (n, at) = fields::number(s, at)?;
-    Some((Record::GroupEpoch(n), at))
-}
-
-// 4: topic, ID, count.
-fn topic(s: &[u8], at: usize) -> Option<(Record, usize)>
-    ensures { Finds topic32 view_record s.now at result }
-{
-    let (number, at) = fields::number(s, at)?;
-    let (id, at) = fields::id(s, at)?;
-    let (count, at) = fields::number(s, at)?;
-    Some((Record::Topic(Topic { number, id, count }), at))
-}
-
-// 5, after the place and a 1: ID, timeout, subscription.
-fn present(s: &[u8], at: usize, place: u32) -> Option<(Record, usize)>
-    ensures { Finds (present32 place) view_record s.now at result }
-{
-    let (id, at) = fields::id(s, at)?;
-    let (timeout, at) = fields::number(s, at)?;
-    let (subscription, at) = fields::number(s, at)?;
-    let member = Member {
-        place,
-        id,
-        timeout,
-        subscription,
-    };
-    Some((Record::Member(member), at))
-}
-
-// 5: place, and 1 with what follows, or 0 for gone.
-fn member(s: &[u8], at: usize) -> Option<(Record, usize)>
-    ensures { Finds member32 view_record s.now at result }
-{
-    let (place, at) = fields::number(s, at)?;
-    let (k, at) = fields::byte(s, at)?;
-    match k {
-        0 => Some((Record::MemberGone(place), at)),
-        1 => present(s, at, place),
-        _ => None,
+    // 3: G.
+    fn group_epoch(&mut self) -> Option<Record>
+        ensures { Finds epoch32 view_record self.old result self.new }
+    {
+        Some(Record::GroupEpoch(self.number()?))
     }
-}
 
-// 6: T.
-fn target_epoch(s: &[u8], at: usize) -> Option<(Record, usize)>
-    ensures { Finds target_epoch32 view_record s.now at result }
-{
-    let (n, at) = fields::number(s, at)?;
-    Some((Record::TargetEpoch(n), at))
-}
-
-// 7: place, set.
-fn target(s: &[u8], at: usize) -> Option<(Record, usize)>
-    ensures { Finds target32 view_record s.now at result }
-{
-    let (place, at) = fields::number(s, at)?;
-    let (slots, at) = fields::set(s, at)?;
-    Some((Record::Target(Target { place, slots }), at))
-}
-
-// 8, after place and E: set A, set P.
-fn sets(s: &[u8], at: usize, place: u32, epoch: u32) -> Option<(Record, usize)>
-    ensures { Finds (sets32 place epoch) view_record s.now at result }
-{
-    let (assigned, at) = fields::set(s, at)?;
-    let (revoking, at) = fields::set(s, at)?;
-    let current = Current {
-        place,
-        epoch,
-        assigned,
-        revoking,
-    };
-    Some((Record::Current(current), at))
-}
-
-// 8: place, E and the sets, or 0 for gone.
-fn current(s: &[u8], at: usize) -> Option<(Record, usize)>
-    ensures { Finds current32 view_record s.now at result }
-{
-    let (place, at) = fields::number(s, at)?;
-    let (epoch, at) = fields::number(s, at)?;
-    if epoch == 0 {
-        return Some((Record::CurrentGone(place), at));
+    // 4: topic, ID, count.
+    fn topic(&mut self) -> Option<Record>
+        ensures { Finds topic32 view_record self.old result self.new }
+    {
+        let topic = Topic {
+            number: self.number()?,
+            id: self.id()?,
+            count: self.number()?,
+        };
+        Some(Record::Topic(topic))
     }
-    sets(s, at, place, epoch)
+
+    // 5, after the place and a 1: ID, timeout, subscription.
+    fn present(&mut self, place: u32) -> Option<Record>
+        ensures { Finds (present32 place) view_record self.old result self.new }
+    {
+        let member = Member {
+            place,
+            id: self.id()?,
+            timeout: self.number()?,
+            subscription: self.number()?,
+        };
+        Some(Record::Member(member))
+    }
+
+    // 5: place, and 1 with what follows, or 0 for gone.
+    fn member(&mut self) -> Option<Record>
+        ensures { Finds member32 view_record self.old result self.new }
+    {
+        let place = self.number()?;
+        match self.byte()? {
+            0 => Some(Record::MemberGone(place)),
+            1 => self.present(place),
+            _ => None,
+        }
+    }
+
+    // 6: T.
+    fn target_epoch(&mut self) -> Option<Record>
+        ensures { Finds target_epoch32 view_record self.old result self.new }
+    {
+        Some(Record::TargetEpoch(self.number()?))
+    }
+
+    // 7: place, set.
+    fn target(&mut self) -> Option<Record>
+        ensures { Finds target32 view_record self.old result self.new }
+    {
+        let target = Target {
+            place: self.number()?,
+            slots: self.set()?,
+        };
+        Some(Record::Target(target))
+    }
+
+    // 8, after place and E: set A, set P.
+    fn sets(&mut self, place: u32, epoch: u32) -> Option<Record>
+        ensures { Finds (sets32 place epoch) view_record self.old result self.new }
+    {
+        let current = Current {
+            place,
+            epoch,
+            assigned: self.set()?,
+            revoking: self.set()?,
+        };
+        Some(Record::Current(current))
+    }
+
+    // 8: place, E and the sets, or 0 for gone.
+    fn current(&mut self) -> Option<Record>
+        ensures { Finds current32 view_record self.old result self.new }
+    {
+        let place = self.number()?;
+        let epoch = self.number()?;
+        if epoch == 0 {
+            return Some(Record::CurrentGone(place));
+        }
+        self.sets(place, epoch)
+    }
 }

@@ -4,12 +4,18 @@
 
 ghost use Rattle.reading.specs.Views.{ReadsRecord};
 
+use fields::Cursor;
 use rules::Id;
 use slots::SlotSet;
 
+mod batch; // batch.rt: the records of a batch, one after another
 mod fields; // fields.rt: a number, a byte, an ID, a set of slots
 mod kinds; // kinds.rt: a record of each kind
 
+pub use batch::Records;
+
+// As it is: these are not the types that records writes. A place and a subscription are read as any number of 32 bits (`Finds` with `record32`), and written as
+// a place and as 16 bits; only the three fields of a topic are the same, and one type of four from there is no plainer.
 // 4: topic, ID, count.
 #[derive(Clone, Copy)]
 pub struct Topic {
@@ -65,5 +71,7 @@ pub enum Record {
 pub fn read_record(s: &[u8], at: usize) -> Option<(Record, usize)>
     ensures { ReadsRecord s.now at result }
 {
-    kinds::record(s, at)
+    let mut cursor = Cursor { bytes: s, at };
+    let record = cursor.record()?;
+    Some((record, cursor.at))
 }

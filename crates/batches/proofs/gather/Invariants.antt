@@ -1,11 +1,8 @@
--- The records so far and those from `at` on are the records of the batch (`Going`).
-use Prim.Native.Nat.{◌-◌}
-use lib.ListN.{length}
+-- The records so far and those that are left are the records of the batch (`Going`).
 use Rattle.batches.proofs.Going.{Going}
 use Rattle.batches.proofs.gather.Given as goal
 
-abbrev pub invariant-loop-at : goal.invariant-loop-at
-invariant-loop-at l = Going l.batch l.at l.found l.gone l.initial.entries l.entries
-
-abbrev pub decreases-loop-at : goal.decreases-loop-at
-decreases-loop-at l = length l.batch - l.at
+abbrev pub invariant-loop-record : goal.invariant-loop-record
+invariant-loop-record l =
+    (goal.iterator-loop-record).can_next l.record-iterator × (goal.iterator-loop-record).is_finite l.record-iterator
+    × Going l.batch l.record-iterator l.found l.gone l.initial.entries l.entries

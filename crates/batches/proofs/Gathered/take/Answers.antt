@@ -18,32 +18,32 @@ pub returns-in-TargetEpoch : goal.returns-in-TargetEpoch
 unfolding placed places_of parts_of
 returns-in-TargetEpoch c = rw c.in-TargetEpoch.is (taken _ refl c.with_target_epoch.ensures marks_none refl)
 
-pub returns-in_ok-place-in-Member : goal.returns-in_ok-place-in-Member
+pub returns-in_ok-ok-in-Member : goal.returns-in_ok-ok-in-Member
 unfolding placed places_of parts_of
-returns-in_ok-place-in-Member c =
-    let at = there _ _ c.in_ok-place-in-Member.ensures in
+returns-in_ok-ok-in-Member c =
+    let at = there _ _ _ c.try_from.ensures c.in_ok-ok-in-Member.ensures.value in
     rw c.in-Member.is (taken _ at.placed c.with_member.ensures marks_none refl)
 
-pub returns-in_ok-gone-in-MemberGone : goal.returns-in_ok-gone-in-MemberGone
+pub returns-in_ok-place-in-MemberGone : goal.returns-in_ok-place-in-MemberGone
 unfolding placed places_of parts_of
-returns-in_ok-gone-in-MemberGone c =
-    let at = there _ _ c.in_ok-gone-in-MemberGone.ensures in
+returns-in_ok-place-in-MemberGone c =
+    let at = there _ _ _ c.try_from-in-MemberGone.ensures c.in_ok-place-in-MemberGone.ensures.value in
     rw c.in-MemberGone.is (taken _ at.placed (c.with_gone.ensures _) (marks_some _ _ at.same (omega arith)) refl)
 
 pub returns-in_ok-place-in-Target : goal.returns-in_ok-place-in-Target
 unfolding placed places_of parts_of laid_over
 returns-in_ok-place-in-Target c =
-    let at = there _ _ c.in_ok-place-in-Target.ensures in
+    let at = there _ _ _ c.try_from-in-Target.ensures c.in_ok-place-in-Target.ensures.value in
     rw c.in-Target.is (taken _ at.placed (adds_target _ _) marks_none (rw (sym at.same) c.lay.ensures))
 
-pub returns-in_ok-place-in-Current : goal.returns-in_ok-place-in-Current
+pub returns-in_ok-ok-in-Current : goal.returns-in_ok-ok-in-Current
 unfolding placed places_of parts_of
-returns-in_ok-place-in-Current c =
-    let at = there _ _ c.in_ok-place-in-Current.ensures in
+returns-in_ok-ok-in-Current c =
+    let at = there _ _ _ c.try_from-in-Current.ensures c.in_ok-ok-in-Current.ensures.value in
     rw c.in-Current.is (taken _ at.placed (c.with_current.ensures _ _) marks_none refl)
 
-pub returns-in_ok-place-in-CurrentGone : goal.returns-in_ok-place-in-CurrentGone
+pub returns-in_ok-ok-in-CurrentGone : goal.returns-in_ok-ok-in-CurrentGone
 unfolding placed places_of parts_of
-returns-in_ok-place-in-CurrentGone c =
-    let at = there _ _ c.in_ok-place-in-CurrentGone.ensures in
+returns-in_ok-ok-in-CurrentGone c =
+    let at = there _ _ _ c.try_from-in-CurrentGone.ensures c.in_ok-ok-in-CurrentGone.ensures.value in
     rw c.in-CurrentGone.is (taken _ at.placed (adds_current_gone _ _) marks_none refl)

@@ -1,11 +1,12 @@
 -- An epoch of 0 is of a member that is gone.
 use native.Mathlib.Omega.{arith}
+use Rattle.std.proofs.Common.{◌∙◌}
 use Rattle.rules.specs.Reader.{◌>>=◌, and_then, pure}
-use Rattle.reading.proofs.kinds.current.Goals as goal
+use Rattle.reading.proofs.fields.Cursor.current.Goals as goal
 
 pub returns-then-epoch-eq0 : goal.returns-then-epoch-eq0
 unfolding ◌>>=◌ and_then pure
 returns-then-epoch-eq0 c =
     let place = c.in_ok-place.ensures in
     let epoch = c.in_ok-epoch.ensures in
-    (rw (place.0, epoch.0, c.if-epoch-eq0.true), omega (arith, place, epoch), epoch.2)
+    (rw (place.0, epoch.0, c.if-epoch-eq0.true), epoch.1 ∙ place.1, omega (arith, place, epoch), epoch.3)
