@@ -5,7 +5,7 @@ ghost use Rattle.std.specs.Prelude.{◌≡◌};
 ghost use Rattle.events.specs.Outcomes.{outcome_of};
 
 mod answers; // answers.rt: answers as plain numbers
-pub mod rows; // rows.rt: rows of more than one kind of heartbeat
+mod rows; // rows.rt: what more than one kind of heartbeat asks of its request
 
 pub use answers::{Said, number_of};
 use rules::{Answer, Id, Refusal};

@@ -3,7 +3,7 @@
 #![tactic(auto)]
 
 ghost use Rattle.std.specs.Prelude.{◌≡◌, ◌||◌, List, map, ℕ, is_some};
-ghost use Rattle.rules.specs.Basics.{any, default};
+ghost use Rattle.rules.specs.Basics.{any};
 ghost use Rattle.rules.specs.Group.{targeted};
 ghost use Rattle.group.specs.Columns.{view_members, seat_at};
 ghost use Rattle.group.specs.Searches.{Finds};
@@ -11,10 +11,10 @@ ghost use Rattle.rules.specs.Refusals.{joins, malformed, lacking};
 ghost use Rattle.rules.specs.Effects.{join_at, vacated};
 ghost use Rattle.tables.specs.View.{slots_in};
 ghost use Rattle.group.specs.Members.{joined_as};
-ghost use Rattle.events.specs.Outcomes.{Becomes, outcome_of, topics_of, given_subscription, request_of, carried, step_as};
+ghost use Rattle.events.specs.Outcomes.{Becomes, outcome_of, topics_of, request_of, carried, step_as};
 ghost use Rattle.joining.specs.Joining.{has_place, place_for, IsOf, Ready, metadata_in};
 
-use events::{Outcome, Request, rows};
+use events::{Outcome, Request};
 use group::member::Member;
 use group::members::Members;
 use group::{Group, Seat, epochs, requests, ticks};
@@ -35,7 +35,7 @@ fn is_lacking(b: Request, owned: &[u16]) -> bool
 fn is_bad_join(b: Request, owned: &[u16]) -> bool
     ensures { result ≡ (malformed (request_of b owned.now) || lacking (request_of b owned.now)) }
 {
-    rows::is_malformed(b, owned) || is_lacking(b, owned)
+    b.is_malformed(owned) || is_lacking(b, owned)
 }
 
 // The place at which a member with an ID joins: its own, or else the lowest free one.
@@ -43,17 +43,6 @@ fn choose_place(members: &Members, id: Id) -> Option<Place>
     ensures { Finds (has_place (view_members members.now.cells) id) (place_for (view_members members.now.cells) id) result }
 {
     members.find(id).or_else(|| members.find_vacant())
-}
-
-// The subscription that is given, or none.
-fn given_subscription(b: Request) -> u16
-    ensures { result ≡ default 0 (given_subscription b.has_subscription b.subscription) }
-{
-    if b.has_subscription {
-        b.subscription
-    } else {
-        0
-    }
 }
 
 // Record 5 of a member that joins at a place.
@@ -65,7 +54,7 @@ fn metadata_of(b: Request, p: Place) -> MemberMetadata
         place: p,
         id,
         timeout: requests::timeout_or(b.timeout, 0),
-        subscription: given_subscription(b),
+        subscription: b.subscription_or(0),
     }
 }
 

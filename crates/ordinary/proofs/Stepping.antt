@@ -22,14 +22,14 @@ use Rattle.records.specs.Views.{view_current}
 use Rattle.records.proofs.Differences.{slots_none}
 use Rattle.tables.specs.Changes.{followed_by}
 use Rattle.tables.specs.Gathers.{Gathers}
-use Rattle.tables.specs.Advances.{Advances}
+use Rattle.tables.specs.Advances.{waits_in, revokes_in, moves_in, Advances}
 use Rattle.tables.specs.declared.advancing.Advance.{Advance}
 use Rattle.tables.specs.declared.gathering.PlaceSets.{PlaceSets}
 use Rattle.tables.proofs.Listing.{gathered_assigned, gathered_revoking}
 use Rattle.group.specs.declared.Seat.{Seat}
 use Rattle.group.specs.declared.member.Member.{Member}
 use Rattle.group.specs.View.{seated}
-use Rattle.group.specs.Transitions.{view_member, no_slots, member_of, member_stored, member_heard}
+use Rattle.group.specs.Transitions.{view_member, no_slots, member_of, member_freed, member_revoked, member_advanced, member_stored, member_heard}
 use Rattle.events.specs.declared.Request.{Request}
 use Rattle.ordinary.proofs.Freeing.{none_revoking, stays}
 use Rattle.ordinary.specs.Plans.{asked, view_sender, stored_subscription, stored_timeout, stepped_by, member_next, PlanIs}
@@ -52,11 +52,11 @@ module _ (g : G.Group) (b : Request) (owned : Option (List ℕ)) (p : Place) (se
   abbrev vs : List SlotState
   vs = g.slots
 
-  revokes_so : revokes g sender request ≡ step.revokes
+  revokes_so : revokes g sender request ≡ revokes_in step.change
   unfolding revokes
   revokes_so = sym ha.revokes_is
 
-  epoch_so : epoch_after g sender request ≡ (if step.waits || step.revokes then seat.epoch else max seat.epoch g.target_epoch)
+  epoch_so : epoch_after g sender request ≡ (if waits_in step.change || revokes_in step.change then seat.epoch else max seat.epoch g.target_epoch)
   unfolding epoch_after
   epoch_so = λ i. if sym ha.waits_is i || revokes_so i then seat.epoch else max seat.epoch g.target_epoch
 
@@ -65,7 +65,7 @@ module _ (g : G.Group) (b : Request) (owned : Option (List ℕ)) (p : Place) (se
   slots_so = refl
 
   -- slots are revoked only where the member does not wait
-  one_only : step.waits ≡ true → step.revokes ≡ false
+  one_only : waits_in step.change ≡ true → revokes_in step.change ≡ false
   one_only h = ha.revokes_is ∙ ap (λ (w : Bool). not w && strays p.0 vs owned) (sym ha.waits_is ∙ h)
 
   abbrev next : Member
@@ -74,14 +74,14 @@ module _ (g : G.Group) (b : Request) (owned : Option (List ℕ)) (p : Place) (se
   -- the same by what the step decided
   abbrev decided : Bool → Bool → Member
   decided w r =
-      stepped_by (record { assigned = step.assigned; revoking = step.revoking; waits = w; frees = step.frees; revokes = r; changed = step.changed }) g.target_epoch b.tick
-      (member_heard (member_stored (member_of seat sets.assigned sets.revoking) (stored_subscription seat b) (stored_timeout seat b)) b.tick)
+      let m = member_heard (member_stored (member_of seat sets.assigned sets.revoking) (stored_subscription seat b) (stored_timeout seat b)) b.tick in
+      if w then m else (if r then member_revoked (member_freed m) step.assigned step.revoking b.tick else member_advanced (member_freed m) g.target_epoch step.assigned)
 
   -- what holds in each of the three ways that a heartbeat goes: it waits, it revokes, or neither
-  ways : (P : Bool → Bool → Type 0) → (step.waits ≡ true → P true false) → (step.waits ≡ false → P false true) → (step.waits ≡ false → step.revokes ≡ false → P false false) → P step.waits step.revokes
-  ways P waiting revoking neither = go step.waits step.revokes refl refl
+  ways : (P : Bool → Bool → Type 0) → (waits_in step.change ≡ true → P true false) → (waits_in step.change ≡ false → P false true) → (waits_in step.change ≡ false → revokes_in step.change ≡ false → P false false) → P (waits_in step.change) (revokes_in step.change)
+  ways P waiting revoking neither = go (waits_in step.change) (revokes_in step.change) refl refl
     where
-      go : (w r : Bool) → step.waits ≡ w → step.revokes ≡ r → P w r
+      go : (w r : Bool) → waits_in step.change ≡ w → revokes_in step.change ≡ r → P w r
       go true true e f = absurd (true≢false (sym f ∙ one_only e))
       go true false e f = waiting e
       go false true e f = revoking e
@@ -90,11 +90,11 @@ module _ (g : G.Group) (b : Request) (owned : Option (List ℕ)) (p : Place) (se
   who_so : view_member next
       ≡ record {
         id = seat.id;
-        epoch = if step.waits || step.revokes then seat.epoch else max seat.epoch g.target_epoch;
+        epoch = if waits_in step.change || revokes_in step.change then seat.epoch else max seat.epoch g.target_epoch;
         subscription = stored_subscription seat b;
         timeout = stored_timeout seat b;
         heard = b.tick;
-        revoked_at = if step.revokes then b.tick else seat.revoked_at;
+        revoked_at = if revokes_in step.change then b.tick else seat.revoked_at;
       }
   unfolding member_next stepped_by
   who_so =
@@ -136,7 +136,7 @@ module _ (g : G.Group) (b : Request) (owned : Option (List ℕ)) (p : Place) (se
       (λ e. gathered_revoking p.0 vs len sets hs ∙ ap (set_p p.0) (sym (stays p.0 vs owned (sym ha.waits_is ∙ e)))) (λ e. ha.revoking_list) none_left
       ∙ ap (set_p p.0) slots_so
     where
-      none_left : step.waits ≡ false → step.revokes ≡ false → slots_of no_slots.words ≡ set_p p.0 (advanced p.0 vs owned)
+      none_left : waits_in step.change ≡ false → revokes_in step.change ≡ false → slots_of no_slots.words ≡ set_p p.0 (advanced p.0 vs owned)
       none_left e f =
           let w : waits p.0 vs owned ≡ false = sym ha.waits_is ∙ e in
           let st : strays p.0 vs owned ≡ false = sym (ap (λ (x : Bool). not x && strays p.0 vs owned) w) ∙ sym ha.revokes_is ∙ f in
@@ -144,9 +144,9 @@ module _ (g : G.Group) (b : Request) (owned : Option (List ℕ)) (p : Place) (se
 
   -- ---- the plan
 
-  module _ (n : Member) (hn : n ≡ next) (ht : followed_by step.changed step.frees step.revokes p.0 vs ≡ advanced p.0 vs owned) (u v : Bool)
+  module _ (n : Member) (hn : n ≡ next) (ht : followed_by step.change p.0 vs ≡ advanced p.0 vs owned) (u v : Bool)
       (hu : u ≡ (not (eqb n.subscription seat.subscription) || not (eqb n.timeout seat.timeout)))
-      (hv : v ≡ (not (eqb n.epoch seat.epoch) || step.changed)) where
+      (hv : v ≡ (not (eqb n.epoch seat.epoch) || moves_in step.change)) where
     who : view_member n ≡ member_after g sender request
     who = ap view_member hn ∙ member_so
 
@@ -154,7 +154,7 @@ module _ (g : G.Group) (b : Request) (owned : Option (List ℕ)) (p : Place) (se
     unfolding resubscribes member_after
     raises_so = λ i. not (eqb (who i).subscription seat.subscription)
 
-    pub plan_is : PlanIs g (record { place = p; seat = seat }) request (record { member = n; changed = step.changed; frees = step.frees; revokes = step.revokes; updates = u; raises = not (eqb n.subscription seat.subscription); moves = v })
+    pub plan_is : PlanIs g (record { place = p; seat = seat }) request (record { member = n; change = step.change; updates = u; raises = not (eqb n.subscription seat.subscription); moves = v })
     unfolding member_after updates moves current_of current_before current_after slots_after view_current
     plan_is = record {
       member_is = who;

@@ -19,6 +19,7 @@ use Rattle.records.specs.declared.kinds.CurrentAssignment.{CurrentAssignment}
 use Rattle.records.specs.declared.kinds.MemberMetadata.{MemberMetadata}
 use Rattle.records.specs.Storing.{ordinary_batch}
 use Rattle.records.specs.Views.{view_current}
+use Rattle.tables.specs.Advances.{waits_in, revokes_in}
 use Rattle.tables.specs.Changes.{followed_by}
 use Rattle.tables.specs.View.{slots_in}
 use Rattle.tables.specs.declared.advancing.Advance.{Advance}
@@ -77,7 +78,7 @@ stored_timeout s b = timeout_or b.timeout s.timeout
 -- steps 2 and 3: a member that waits stays; of any other P is empty or freed, and then slots are revoked, or else assigned
 unfoldable pub stepped_by : Advance → ℕ → ℕ → Member → Member
 stepped_by step target tick m =
-    if step.waits then m else (if step.revokes then member_revoked (member_freed m) step.assigned step.revoking tick else member_advanced (member_freed m) target step.assigned)
+    if waits_in step.change then m else (if revokes_in step.change then member_revoked (member_freed m) step.assigned step.revoking tick else member_advanced (member_freed m) target step.assigned)
 
 -- the member at a seat after steps 1 to 3
 unfoldable pub member_next : Seat → PlaceSets → Advance → Request → ℕ → Member
@@ -95,7 +96,7 @@ current_in p m = record { place = p; epoch = m.epoch; assigned = m.assigned; rev
 pub record PlanIs (g : G.Group) (s : Sender) (b : E.Request) (k : Plan) : Type 0 where
   pub member_is : view_member k.member ≡ member_after g (view_sender s) b
   pub current_is : view_current (current_in s.place k.member) ≡ current_after g (view_sender s) b
-  pub slots_are : followed_by k.changed k.frees k.revokes s.place.0 g.slots ≡ slots_after g (view_sender s) b
+  pub slots_are : followed_by k.change s.place.0 g.slots ≡ slots_after g (view_sender s) b
   pub updates_is : k.updates ≡ updates (seated s.seat) b
   pub raises_is : k.raises ≡ resubscribes (seated s.seat) b
   pub moves_is : k.moves ≡ moves (current_before g (view_sender s)) (current_after g (view_sender s) b)
@@ -120,7 +121,7 @@ epoch_by k e = if k.raises then raised e else e
 unfoldable pub planned : G.Group → Place → ℕ → Plan → Effect
 planned g p tick k = record {
   answer = Assigned (record { epoch = k.member.epoch; interval = heartbeat_interval; count = length (slots_of k.member.assigned.words) });
-  group = changed g (epoch_by k g.epoch) tick (set g.members p.0 (some (view_member k.member))) (followed_by k.changed k.frees k.revokes p.0 g.slots);
+  group = changed g (epoch_by k g.epoch) tick (set g.members p.0 (some (view_member k.member))) (followed_by k.change p.0 g.slots);
   records = ordinary_batch (batch_of k p (epoch_by k g.epoch));
   told = slots_of k.member.assigned.words;
 }

@@ -13,24 +13,12 @@ ghost use Rattle.ordinary.specs.Plans.{asked, view_sender, sender_at, Sends, pla
 
 mod plan; // plan.rt: the sender, and what becomes of it
 mod quick; // quick.rt: the heartbeat that changes nothing
-mod rows; // rows.rt: the first row 42, its list last
+mod rows; // rows.rt: the list of the first row 42
 
 use crate::plan::{Plan, Sender};
 use events::{Outcome, Request};
 use group::{Group, epochs, ticks};
 use rules::{Answer, Assignment, HEARTBEAT_INTERVAL, Place, Refusal};
-
-// No code: slices that teach how long the tables are.
-// As it is: tried without, and the proof didn't close: the lengths of arrays in a lent struct are known only where one of them is read, and nothing here
-// reads the tables.
-#[tactic(auto, using(tables::proofs::Viewing::view_slots))]
-fn whole(group: &Group)
-    ensures { length (slots_in group.now.tables) ≡ slot_count }
-{
-    let _target: &[u8] = &group.tables.target;
-    let _holder: &[u8] = &group.tables.holder;
-    let _waiting: &[bool] = &group.tables.waiting;
-}
 
 // Carries a plan for place p out if there is room for its records and its slots; otherwise nothing changes. The list's room is tried first, since nothing may
 // be written where either is too short.
@@ -53,7 +41,7 @@ fn carry(
     let written = records::store(records, batch)?;
     slots::list_slots(list, k.member.assigned);
     group.members.put(p, k.member.seat());
-    group.tables.follow(p, k.changed, k.frees, k.revokes);
+    group.tables.follow(p, k.change);
     group.head.epoch = epoch;
     group.head.tick = tick;
     Ok(Outcome {
@@ -126,7 +114,7 @@ pub fn ordinary(
     if ticks::goes_back(group.head.tick, b.tick) {
         return Err(Refusal::Clock);
     }
-    if rows::is_malformed(b) {
+    if b.is_malformed_beside_list() {
         return Err(Refusal::InvalidRequest);
     }
     let given = given_list(b, owned);

@@ -1,19 +1,16 @@
 // What an ordinary heartbeat comes to, decided before anything is written. The tables are gathered once, by one pass.
 ghost use Rattle.std.specs.Prelude.{◌≡◌};
-ghost use Rattle.rules.specs.Basics.{default};
 ghost use Rattle.tables.specs.Advances.{listed};
 ghost use Rattle.group.specs.View.{view};
-ghost use Rattle.events.specs.Outcomes.{given_subscription};
 ghost use Rattle.ordinary.specs.Plans.{stepped_by, member_next, batch_of, Plans};
 
-use crate::whole;
 use events::Request;
 use group::member::Member;
 use group::{Group, Seat, requests};
 use records::batches::OrdinaryBatch;
 use records::kinds::{CurrentAssignment, GroupEpoch, MemberMetadata};
 use rules::Place;
-use tables::{Advance, PlaceSets};
+use tables::{Advance, Change, PlaceSets};
 
 // Who sends a heartbeat, found once: its place and its seat.
 #[derive(Clone, Copy)]
@@ -22,27 +19,15 @@ pub struct Sender {
     pub seat: Seat,
 }
 
-// The member after the heartbeat; what steps 2 and 3 do to the tables, of which nothing changes unless A or P `changed`; and which records are stored:
-// 5 if the subscription or the timeout is updated, 3 if the group epoch rises, 8 if E, A or P moves.
+// The member after the heartbeat; what becomes of the slots; and which records are stored: 5 if the subscription or the timeout is updated, 3 if the group
+// epoch rises, 8 if E, A or P moves.
 #[derive(Clone, Copy)]
 pub struct Plan {
     pub member: Member,
-    pub changed: bool,
-    pub frees: bool,
-    pub revokes: bool,
+    pub change: Change,
     pub updates: bool,
     pub raises: bool,
     pub moves: bool,
-}
-
-// The subscription that is given, or else the one there was.
-pub fn subscription_or(b: Request, had: u16) -> u16
-    ensures { result ≡ default had (given_subscription b.has_subscription b.subscription) }
-{
-    if b.has_subscription {
-        return b.subscription;
-    }
-    had
 }
 
 // The member after steps 2 and 3. Where it does not wait its P is freed, or was empty already.
@@ -50,14 +35,11 @@ pub fn subscription_or(b: Request, had: u16) -> u16
 fn stepped(m: Member, step: &Advance, target_epoch: u32, tick: u32) -> Member
     ensures { result ≡ stepped_by step.now target_epoch tick m }
 {
-    if step.waits {
-        return m;
+    match step.change {
+        Change::Waits => m,
+        Change::Revokes { .. } => m.free().revoke(step.assigned, step.revoking, tick),
+        Change::Stays | Change::Claims { .. } => m.free().advance(target_epoch, step.assigned),
     }
-    let free = m.free();
-    if step.revokes {
-        return free.revoke(step.assigned, step.revoking, tick);
-    }
-    free.advance(target_epoch, step.assigned)
 }
 
 // The member at a seat after steps 1 to 3, by the sets of its place and what steps 2 and 3 came to.
@@ -71,7 +53,7 @@ fn next_member(
 ) -> Member
     ensures { result ≡ member_next seat sets.now step.now b target_epoch }
 {
-    let subscription = subscription_or(b, seat.subscription);
+    let subscription = b.subscription_or(seat.subscription);
     let timeout = requests::timeout_or(b.timeout, seat.timeout);
     let had = Member::gathered(seat, sets.assigned, sets.revoking);
     let heard = had.store(subscription, timeout).hear(b.tick);
@@ -82,7 +64,6 @@ fn next_member(
 pub fn make_plan(group: &Group, s: Sender, b: Request, owned: Option<&[u16]>) -> Plan
     ensures { Plans (view group.now) s b (listed owned.entry) result }
 {
-    whole(group);
     let seat = s.seat;
     let sets = group.tables.gather(s.place);
     let step = sets.advance(owned);
@@ -90,12 +71,10 @@ pub fn make_plan(group: &Group, s: Sender, b: Request, owned: Option<&[u16]>) ->
     let raises = next.subscription != seat.subscription;
     Plan {
         member: next,
-        changed: step.changed,
-        frees: step.frees,
-        revokes: step.revokes,
+        change: step.change,
         updates: raises | (next.timeout != seat.timeout),
         raises: raises,
-        moves: (next.epoch != seat.epoch) | step.changed,
+        moves: (next.epoch != seat.epoch) | step.change.moves(),
     }
 }
 

@@ -3,8 +3,6 @@ ghost use Rattle.std.specs.Prelude.{◌≡◌, true, ◌≤◌, length};
 ghost use Rattle.rules.specs.Constants.{slot_count};
 ghost use Rattle.ordinary.specs.Plans.{Calm, Heard};
 
-use crate::plan::subscription_or;
-use crate::whole;
 use events::{Outcome, Request};
 use group::{Group, requests};
 use rules::{Answer, Assignment, HEARTBEAT_INTERVAL, Place, SLOTS};
@@ -14,13 +12,12 @@ use rules::{Answer, Assignment, HEARTBEAT_INTERVAL, Place, SLOTS};
 pub fn is_calm(group: &Group, p: Place, e: u32, b: Request, owned: &[u16], room: usize) -> bool
     ensures { result ≡ true → Calm group.now p.0 e b owned.now room }
 {
-    whole(group);
     let subscription = group.members.subscription_at(p);
     let timeout = group.members.timeout_at(p);
     owned.len() <= SLOTS
         && owned.len() <= room
         && group.head.target_epoch <= e
-        && subscription_or(b, subscription) == subscription
+        && b.subscription_or(subscription) == subscription
         && requests::timeout_or(b.timeout, timeout) == timeout
         && quiet::is_quiet(&group.tables, p, owned)
 }

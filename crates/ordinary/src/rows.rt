@@ -1,19 +1,11 @@
-// The first row 42 of an ordinary heartbeat, in two parts: its list is looked at last, since the quick path needs no look at it.
-ghost use Rattle.std.specs.Prelude.{◌≡◌, ◌||◌, [], if◌then◌else◌};
+// The list of the first row 42 of an ordinary heartbeat: it is looked at last, since the quick path needs no look at it.
+ghost use Rattle.std.specs.Prelude.{◌≡◌, [], if◌then◌else◌};
 ghost use Rattle.rules.specs.Basics.{default};
-ghost use Rattle.rules.specs.Refusals.{zero_id, bad_timeout, bad_list};
+ghost use Rattle.rules.specs.Refusals.{bad_list};
 ghost use Rattle.tables.specs.Advances.{listed};
 
-use events::Request;
-use group::{ids, requests};
+use group::requests;
 use rules::Refusal;
-
-// Whether the ID is all zero or the timeout is out of range.
-pub fn is_malformed(b: Request) -> bool
-    ensures { result ≡ (zero_id b.id || bad_timeout b.timeout) }
-{
-    ids::is_zero(b.id) || requests::is_bad_timeout(b.timeout)
-}
 
 // Whether a list is given that is no set of slots.
 #[tactic(auto, unfolding(rules::specs::Refusals::bad_list, rules::specs::Refusals::is_slot_set))]

@@ -2,7 +2,7 @@
 // No set is gathered.
 #![tactic(auto)]
 
-ghost use Rattle.std.specs.Prelude.{◌≡◌, true, ◌+◌, ◌<◌, ◌≤◌};
+ghost use Rattle.std.specs.Prelude.{◌≡◌, true, ◌+◌, ◌<◌, ◌≤◌, length};
 ghost use Rattle.rules.specs.Constants.{slot_count};
 ghost use Rattle.rules.specs.Refusals.{is_slot_set};
 ghost use Rattle.tables.specs.View.{slots_in, slot_at, Whole};
@@ -25,7 +25,7 @@ fn count_part(tables: &Tables, from: usize, p: Place) -> u8
 {
     let mut n: u8 = 0;
     for i in 0..PART {
-        n += u8::from((tables.holder[from + i] == p.0) | (tables.target[from + i] == p.0));
+        n += u8::from(tables.is_near(p, from + i));
     }
     n
 }
@@ -65,7 +65,8 @@ fn all_settled(tables: &Tables, p: Place, list: &[u16]) -> bool
 
 // Whether the list is A of the place p, and steps 2 and 3 change nothing for it; `true` says so, `false` says nothing.
 pub fn is_quiet(tables: &Tables, p: Place, list: &[u16]) -> bool
-    ensures { result ≡ true → Quiet p.0 (slots_in tables.now) list.now }
+    ensures quiet { result ≡ true → Quiet p.0 (slots_in tables.now) list.now }
+    ensures whole { result ≡ true → length (slots_in tables.now) ≡ slot_count }
 {
     if !rising::is_slot_set(list) {
         return false;

@@ -3,6 +3,7 @@ pub mod Viewing
 pub mod Telling
 pub mod Changed
 pub mod Nearness
+pub mod NearSlots
 pub mod Filling
 pub mod Listing
 pub mod Slotwise

@@ -9,9 +9,11 @@ use mathlib.Core.Option.{Option}
 use Rattle.std.proofs.lemmas.Grind.{common_steps}
 use Rattle.rules.specs.Group.{SlotState}
 use Rattle.rules.specs.Effects.{waits, strays, advanced, frees, freed, after_free, revoked, claimed}
-use Rattle.tables.specs.Advances.{Advances}
-use Rattle.tables.specs.Changes.{moved_by}
+use Rattle.tables.specs.Advances.{frees_in, revokes_in, moves_in, Advances}
+use Rattle.tables.specs.Changes.{moved_by, followed_by}
 use Rattle.tables.specs.declared.advancing.Advance.{Advance}
+use Rattle.tables.specs.declared.advancing.Change.{Change}
+use Rattle.tables.specs.declared.advancing.Change.TheVariants.{Waits, Stays, Revokes, Claims}
 use Rattle.tables.proofs.Lists.{map_two}
 
 module _ (p : ℕ) (vs : List SlotState) (owned : Option (List ℕ)) where
@@ -30,6 +32,12 @@ module _ (p : ℕ) (vs : List SlotState) (owned : Option (List ℕ)) where
       go false false = refl
 
   module _ (r : Advance) (t : Advances p vs owned r) where
-    -- the slots are written only if A or P changed
-    pub written : (v : List SlotState) → v ≡ (if r.changed then map (moved_by r.frees r.revokes p) vs else vs) → v ≡ advanced p vs owned
-    written v e = grind (arith, common_steps, advanced_moved r.frees r.revokes, t.moves, t.frees_is, t.revokes_is, t.unchanged)
+    -- the slots are written only if A or P changes
+    pub written : followed_by r.change p vs ≡ advanced p vs owned
+    written = go r.change refl
+      where
+        go : (c : Change) → r.change ≡ c → followed_by c p vs ≡ advanced p vs owned
+        go Waits e = sym (t.unchanged (ap moves_in e))
+        go Stays e = sym (t.unchanged (ap moves_in e))
+        go (Revokes f) e = sym (advanced_moved f true (t.moves (ap moves_in e)) (sym (ap frees_in e) ∙ t.frees_is) (sym (ap revokes_in e) ∙ t.revokes_is))
+        go (Claims f) e = sym (advanced_moved f false (t.moves (ap moves_in e)) (sym (ap frees_in e) ∙ t.frees_is) (sym (ap revokes_in e) ∙ t.revokes_is))

@@ -4,7 +4,7 @@ use native.Mathlib.Omega.{arith}
 use mathlib.Core.Path.{◌≡◌, refl, sym, ap, ap₂, ◌∙◌}
 use mathlib.Core.Bool.{Bool, true, false, not, ◌&&◌, ◌||◌}
 use Rattle.std.specs.Prelude as P
-use Rattle.std.specs.Prelude.{MatchOption}
+use Rattle.std.specs.Prelude.{MatchOption, if◌then◌else◌}
 use Rattle.std.specs.Borrow.{Bor}
 use mathlib.Core.Option.{Option, none, some}
 use mathlib.Core.List.{List}
@@ -13,12 +13,31 @@ use Rattle.std.proofs.lemmas.Grind.{common_steps}
 use Rattle.rules.specs.Basics.{any}
 use Rattle.slots.specs.Set.{has, TellsEmpty, word_count}
 use Rattle.slots.specs.declared.SlotSet.{SlotSet}
-use Rattle.tables.specs.Advances.{listed, FreesSet, some_slot, frees_set, waits_on, stray_in, free_in, assigned_after, revoking_after, AdvancesSets}
+use Rattle.tables.specs.Advances.{listed, FreesSet, some_slot, frees_set, waits_on, stray_in, free_in, assigned_after, revoking_after, waits_in, frees_in, revokes_in, moves_in, AdvancesSets}
+use Rattle.tables.specs.declared.advancing.Change.{Change}
+use Rattle.tables.specs.declared.advancing.Change.TheVariants.{Waits, Stays, Revokes, Claims}
 use Rattle.tables.specs.declared.gathering.PlaceSets.{PlaceSets}
 use Rattle.tables.proofs.Listing.{some_told}
 
 not_freed : (x y : Bool) → (x && not y) ≡ true → false ≡ y
 not_freed x y e = grind (arith, common_steps)
+
+-- ---- what is claimed, or nothing
+
+abbrev either : Bool → Bool → Change
+either f k = if f || k then Claims f else Stays
+
+waits_either : (f k : Bool) → waits_in (either f k) ≡ false
+waits_either f k = grind (arith, common_steps)
+
+frees_either : (f k : Bool) → frees_in (either f k) ≡ f
+frees_either f k = grind (arith, common_steps)
+
+revokes_either : (f k : Bool) → revokes_in (either f k) ≡ false
+revokes_either f k = grind (arith, common_steps)
+
+moves_either : (f k : Bool) → moves_in (either f k) ≡ (f || k)
+moves_either f k = grind (arith, common_steps)
 
 -- ---- step 2
 
@@ -60,7 +79,7 @@ module _ (a : PlaceSets) (lp : length a.revoking.words ≡ word_count) (nil : Bo
 
 module _ (a : PlaceSets) (owned : Option (List ℕ)) where
   pub sets_wait : FreesSet a owned P.None → AdvancesSets a owned
-      (record { assigned = a.assigned; revoking = a.revoking; waits = true; frees = false; revokes = false; changed = false })
+      (record { assigned = a.assigned; revoking = a.revoking; change = Waits })
   unfolding assigned_after revoking_after waits_on
   sets_wait w = record {
     assigned_are = λ s. rw w;
@@ -81,7 +100,7 @@ module _ (a : PlaceSets) (owned : Option (List ℕ)) where
     some_stray = some_told (stray_in a) st.words ls hs es no_strays
 
     pub sets_revoke : es ≡ false → (r : SlotSet) → ((s : ℕ) → has r.words s ≡ (has a.assigned.words s && not (has st.words s)))
-        → AdvancesSets a owned (record { assigned = r; revoking = st; waits = false; frees = fr; revokes = true; changed = true })
+        → AdvancesSets a owned (record { assigned = r; revoking = st; change = Revokes fr })
     unfolding assigned_after revoking_after
     sets_revoke z r hr =
         let x = some_stray ∙ ap not z in
@@ -95,14 +114,14 @@ module _ (a : PlaceSets) (owned : Option (List ℕ)) where
         }
 
     -- d: what of P is in the target; k: what is claimed
-    pub sets_claim : es ≡ true → (d₁ d k r q : SlotSet) (ek ch : Bool)
+    pub sets_claim : es ≡ true → (d₁ d k r q : SlotSet) (ek : Bool) (ch : Change)
         → ((s : ℕ) → has d₁.words s ≡ (has a.revoking.words s && not (has a.target.words s)))
         → ((s : ℕ) → has d.words s ≡ (has a.revoking.words s && not (has d₁.words s)))
         → ((s : ℕ) → has k.words s ≡ (has a.claimable.words s || has d.words s))
         → ((s : ℕ) → has r.words s ≡ (has a.assigned.words s || has k.words s))
         → ((s : ℕ) → has q.words s ≡ false)
-        → length k.words ≡ word_count → TellsEmpty k.words ek → ch ≡ (fr || not ek)
-        → AdvancesSets a owned (record { assigned = r; revoking = q; waits = false; frees = fr; revokes = false; changed = ch })
+        → length k.words ≡ word_count → TellsEmpty k.words ek → ch ≡ (if fr || not ek then Claims fr else Stays)
+        → AdvancesSets a owned (record { assigned = r; revoking = q; change = ch })
     unfolding assigned_after revoking_after
     sets_claim z d₁ d k r q ek ch hd₁ hd hk hr hq lk no-claims hch =
         let x = some_stray ∙ ap not z in
@@ -111,8 +130,8 @@ module _ (a : PlaceSets) (owned : Option (List ℕ)) where
         record {
           assigned_are = λ s. hr s ∙ ap (λ (y : Bool). has a.assigned.words s || y) (claims s) ∙ sym (rw (w, x));
           revoking_are = λ s. hq s ∙ sym (no_strays.0 z s) ∙ hs s ∙ sym (rw w);
-          waits_is = sym w;
-          frees_is = f.1;
-          revokes_is = rw (w, x);
-          changed_is = grind (arith, common_steps, hch, f.1, c, w, x);
+          waits_is = ap waits_in hch ∙ (waits_either fr (not ek)) ∙ sym w;
+          frees_is = ap frees_in hch ∙ (frees_either fr (not ek)) ∙ f.1;
+          revokes_is = ap revokes_in hch ∙ (revokes_either fr (not ek)) ∙ rw (w, x);
+          changed_is = ap moves_in hch ∙ (moves_either fr (not ek)) ∙ grind (arith, common_steps, f.1, c, w, x);
         }

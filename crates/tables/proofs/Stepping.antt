@@ -22,7 +22,7 @@ use Rattle.slots.specs.Set.{has, slots_of, word_count}
 use Rattle.slots.proofs.Words.{has_past}
 use Rattle.slots.proofs.Selecting.{unlike}
 use Rattle.tables.specs.Gathers.{Picks, Gathers}
-use Rattle.tables.specs.Advances.{some_slot, frees_set, waits_on, stray_in, free_in, assigned_after, revoking_after, AdvancesSets, Advances}
+use Rattle.tables.specs.Advances.{some_slot, frees_set, waits_on, stray_in, free_in, assigned_after, revoking_after, moves_in, AdvancesSets, Advances}
 use Rattle.tables.specs.declared.gathering.PlaceSets.{PlaceSets}
 use Rattle.tables.specs.declared.advancing.Advance.{Advance}
 use Rattle.tables.proofs.Lists.{any_ext, any_map, map_same}
@@ -141,7 +141,7 @@ module _ (p : ℕ) (vs : List SlotState) (len : length vs ≡ slot_count) (lt : 
     changed_none : advanced p vs owned ≡ vs → Changed false
     changed_none z = rw (z, same_refl (set_a p vs), same_refl (set_p p vs))
 
-    made : PicksA → PicksP → Changed r.changed → (r.changed ≡ false → advanced p vs owned ≡ vs) → Advances p vs owned r
+    made : PicksA → PicksP → Changed (moves_in r.change) → (moves_in r.change ≡ false → advanced p vs owned ≡ vs) → Advances p vs owned r
     made pa pq ch un = record {
       assigned_are = pa;
       revoking_are = pq;
@@ -162,7 +162,7 @@ module _ (p : ℕ) (vs : List SlotState) (len : length vs ≡ slot_count) (lt : 
     unfolding advanced assigned_after revoking_after
     by_wait w =
         let z : advanced p vs owned ≡ vs = rw (waits_so, w) in
-        let c : r.changed ≡ false = e.changed_is ∙ rw w in
+        let c : moves_in r.change ≡ false = e.changed_is ∙ rw w in
         made (λ s h. e.assigned_are s ∙ rw (w, z) (g.assigned_are s h)) (λ s h. e.revoking_are s ∙ rw (w, z) (g.revoking_are s h))
         (c ∙ changed_none z) (λ _. z)
 
@@ -181,7 +181,7 @@ module _ (p : ℕ) (vs : List SlotState) (len : length vs ≡ slot_count) (lt : 
       unfolding advanced assigned_after revoking_after
       by_revoke x =
           let z : advanced p vs owned ≡ map (revoked p) (after_free p vs owned) = rw (waits_so, w, strays_so, x) in
-          let c : r.changed ≡ true = e.changed_is ∙ rw (w, x) in
+          let c : moves_in r.change ≡ true = e.changed_is ∙ rw (w, x) in
           let k = slot_of (stray_in a) x in
           let stray-k = and_true (has a.assigned.words k.0) _ k.2 in
           let pa : PicksA = λ s h. e.assigned_are s ∙ rw (w, x, g.assigned_are s h, g.target_are s h, changed_at (revoked p) z s h)
@@ -199,7 +199,7 @@ module _ (p : ℕ) (vs : List SlotState) (len : length vs ≡ slot_count) (lt : 
           (sym (claim_a p n at_self (frees_set a owned) (at s) (none_left s h))) in
           let none_after : (s : ℕ) → s < slot_count → has r.revoking.words s ≡ false = λ s h. e.revoking_are s ∙ rw w (none_of (stray_in a) x s h) in
           let pq : PicksP = λ s h. none_after s h ∙ rw (changed_at (claimed p) z s h) (sym (claim_q p n at_self (frees_set a owned) (at s) (none_left s h))) in
-          let c : r.changed ≡ (frees_set a owned || some_slot (free_in a)) = e.changed_is ∙ rw (w, x) in
+          let c : moves_in r.change ≡ (frees_set a owned || some_slot (free_in a)) = e.changed_is ∙ rw (w, x) in
           made pa pq (c ∙ changes pa pq none_after z (frees_set a owned) (some_slot (free_in a)) refl refl)
           (λ h. let o = or_false (frees_set a owned) (some_slot (free_in a)) (sym c ∙ h) in nothing z o.0 o.1)
         where

@@ -12,6 +12,8 @@ use Rattle.slots.specs.Set.{has, slots_of}
 use Rattle.tables.specs.Gathers.{Picks}
 use Rattle.tables.specs.declared.gathering.PlaceSets.{PlaceSets}
 use Rattle.tables.specs.declared.advancing.Advance.{Advance}
+use Rattle.tables.specs.declared.advancing.Change.{Change}
+use Rattle.tables.specs.declared.advancing.Change.TheVariants.{Waits, Stays, Revokes, Claims}
 
 -- a list that may be given, as the rules have it
 abbrev pub owned_of : Bool → List ℕ → Option (List ℕ)
@@ -58,14 +60,39 @@ assigned_after a owned s =
 unfoldable pub revoking_after : PlaceSets → Option (List ℕ) → ℕ → Bool
 revoking_after a owned s = if waits_on a owned then has a.revoking.words s else stray_in a s
 
+-- what becomes of the slots: whether the place waits, whether P is freed, whether slots move to P, and whether A or P changes
+abbrev pub waits_in : Change → Bool
+waits_in Waits = true
+waits_in Stays = false
+waits_in (Revokes frees) = false
+waits_in (Claims frees) = false
+
+abbrev pub frees_in : Change → Bool
+frees_in Waits = false
+frees_in Stays = false
+frees_in (Revokes frees) = frees
+frees_in (Claims frees) = frees
+
+abbrev pub revokes_in : Change → Bool
+revokes_in Waits = false
+revokes_in Stays = false
+revokes_in (Revokes frees) = true
+revokes_in (Claims frees) = false
+
+abbrev pub moves_in : Change → Bool
+moves_in Waits = false
+moves_in Stays = false
+moves_in (Revokes frees) = true
+moves_in (Claims frees) = true
+
 -- A and P after the steps, slot by slot; what happened; and whether A or P changed
 pub record AdvancesSets (a : PlaceSets) (owned : Option (List ℕ)) (r : Advance) : Type 0 where
   pub assigned_are : (s : ℕ) → has r.assigned.words s ≡ assigned_after a owned s
   pub revoking_are : (s : ℕ) → has r.revoking.words s ≡ revoking_after a owned s
-  pub waits_is : r.waits ≡ waits_on a owned
-  pub frees_is : r.frees ≡ frees_set a owned
-  pub revokes_is : r.revokes ≡ (not (waits_on a owned) && some_slot (stray_in a))
-  pub changed_is : r.changed ≡ (not (waits_on a owned) && (some_slot (stray_in a) || (frees_set a owned || some_slot (free_in a))))
+  pub waits_is : waits_in r.change ≡ waits_on a owned
+  pub frees_is : frees_in r.change ≡ frees_set a owned
+  pub revokes_is : revokes_in r.change ≡ (not (waits_on a owned) && some_slot (stray_in a))
+  pub changed_is : moves_in r.change ≡ (not (waits_on a owned) && (some_slot (stray_in a) || (frees_set a owned || some_slot (free_in a))))
 
 -- ---- as the rules say it
 
@@ -75,9 +102,9 @@ pub record Advances (p : ℕ) (vs : List SlotState) (owned : Option (List ℕ)) 
   pub revoking_are : Picks (revoking p) (advanced p vs owned) r.revoking
   pub assigned_list : slots_of r.assigned.words ≡ set_a p (advanced p vs owned)
   pub revoking_list : slots_of r.revoking.words ≡ set_p p (advanced p vs owned)
-  pub waits_is : r.waits ≡ waits p vs owned
-  pub frees_is : r.frees ≡ frees p vs owned
-  pub revokes_is : r.revokes ≡ (not (waits p vs owned) && strays p vs owned)
-  pub changed_is : r.changed ≡ (not (same (set_a p (advanced p vs owned)) (set_a p vs)) || not (same (set_p p (advanced p vs owned)) (set_p p vs)))
-  pub unchanged : r.changed ≡ false → advanced p vs owned ≡ vs
-  pub moves : r.changed ≡ true → waits p vs owned ≡ false
+  pub waits_is : waits_in r.change ≡ waits p vs owned
+  pub frees_is : frees_in r.change ≡ frees p vs owned
+  pub revokes_is : revokes_in r.change ≡ (not (waits p vs owned) && strays p vs owned)
+  pub changed_is : moves_in r.change ≡ (not (same (set_a p (advanced p vs owned)) (set_a p vs)) || not (same (set_p p (advanced p vs owned)) (set_p p vs)))
+  pub unchanged : moves_in r.change ≡ false → advanced p vs owned ≡ vs
+  pub moves : moves_in r.change ≡ true → waits p vs owned ≡ false

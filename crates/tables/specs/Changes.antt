@@ -1,8 +1,10 @@
 -- What becomes of a slot of the tables.
-use Rattle.std.specs.Prelude.{ℕ, Bool, false, List, map, get_or, if◌then◌else◌}
+use Rattle.std.specs.Prelude.{ℕ, Bool, true, false, List, map, get_or, if◌then◌else◌}
 use Rattle.rules.specs.Group.{SlotState}
 use Rattle.rules.specs.Effects.{freed, revoked, claimed}
 use Rattle.tables.specs.declared.Tables.{Tables}
+use Rattle.tables.specs.declared.advancing.Change.{Change}
+use Rattle.tables.specs.declared.advancing.Change.TheVariants.{Waits, Stays, Revokes, Claims}
 use Rattle.tables.specs.declared.changing.Entry.{Entry}
 
 -- the slot that an entry of each table stands for
@@ -17,6 +19,9 @@ entry_of t s = record { target = get_or t.target s 0; holder = get_or t.holder s
 unfoldable pub moved_by : Bool → Bool → ℕ → SlotState → SlotState
 moved_by frees revokes p s = if revokes then revoked p (if frees then freed p s else s) else claimed p (if frees then freed p s else s)
 
--- all slots, where A or P changed
-abbrev pub followed_by : Bool → Bool → Bool → ℕ → List SlotState → List SlotState
-followed_by changed frees revokes p vs = if changed then map (moved_by frees revokes p) vs else vs
+-- all slots, where A or P changes
+abbrev pub followed_by : Change → ℕ → List SlotState → List SlotState
+followed_by Waits p vs = vs
+followed_by Stays p vs = vs
+followed_by (Revokes frees) p vs = map (moved_by frees true p) vs
+followed_by (Claims frees) p vs = map (moved_by frees false p) vs

@@ -2,22 +2,43 @@
 ghost use Rattle.std.specs.Prelude.{◌≡◌, false, not, MatchOption};
 ghost use Rattle.rules.specs.Basics.{any};
 ghost use Rattle.slots.specs.Set.{has};
-ghost use Rattle.tables.specs.Advances.{listed, FreesSet, AdvancesSets};
+ghost use Rattle.tables.specs.Advances.{listed, moves_in, FreesSet, AdvancesSets};
 
 use crate::gathering::PlaceSets;
 use rules::Slot;
 use slots::SlotSet;
 
-// What steps 2 and 3 come to: A and P after them, whether the place waits for slots of P to be given back, whether P was freed, whether slots moved
-// to P, and whether A or P changed.
+// What becomes of the slots of a place. `frees`: P is freed before.
+#[derive(Clone, Copy)]
+pub enum Change {
+    // nothing: the place waits for slots of P to be given back
+    Waits,
+    // nothing: P is empty, and A is all of M that can be had
+    Stays,
+    // slots of A move to P
+    Revokes { frees: bool },
+    // A or P changes: slots of M enter A, and P is empty
+    Claims { frees: bool },
+}
+
+impl Change {
+    // Whether A or P changes.
+    pub fn moves(self) -> bool
+        ensures { result ≡ moves_in self }
+    {
+        match self {
+            Change::Waits | Change::Stays => false,
+            Change::Revokes { .. } | Change::Claims { .. } => true,
+        }
+    }
+}
+
+// What steps 2 and 3 come to: A and P after them, and what becomes of the slots.
 #[derive(Clone, Copy)]
 pub struct Advance {
     pub assigned: SlotSet,
     pub revoking: SlotSet,
-    pub waits: bool,
-    pub frees: bool,
-    pub revokes: bool,
-    pub changed: bool,
+    pub change: Change,
 }
 
 // Whether some slot of the list is in the set.
@@ -56,10 +77,7 @@ impl PlaceSets {
             return Advance {
                 assigned: self.assigned,
                 revoking: self.revoking,
-                waits: true,
-                frees: false,
-                revokes: false,
-                changed: false,
+                change: Change::Waits,
             };
         };
         let strays = self.assigned.difference(self.target);
@@ -67,22 +85,21 @@ impl PlaceSets {
             let outside = self.revoking.difference(self.target);
             let regained = self.revoking.difference(outside);
             let claimed = self.claimable.union(regained);
+            let moves = frees | !claimed.is_empty();
             return Advance {
                 assigned: self.assigned.union(claimed),
                 revoking: SlotSet::empty(),
-                waits: false,
-                frees,
-                revokes: false,
-                changed: frees | !claimed.is_empty(),
+                change: if moves {
+                    Change::Claims { frees }
+                } else {
+                    Change::Stays
+                },
             };
         }
         Advance {
             assigned: self.assigned.difference(strays),
             revoking: strays,
-            waits: false,
-            frees,
-            revokes: true,
-            changed: true,
+            change: Change::Revokes { frees },
         }
     }
 }

@@ -6,6 +6,7 @@ ghost use Rattle.tables.specs.View.{slots_in, Whole};
 ghost use Rattle.tables.specs.Changes.{view_entry, entry_of, moved_by, followed_by};
 
 use crate::Tables;
+use crate::advancing::Change;
 use rules::{NO_PLACE, Place, SLOTS};
 
 // The entries of the tables for one slot.
@@ -112,12 +113,14 @@ impl Tables {
         self.change_each(|e| e.vacate(p));
     }
 
-    // What steps 2 and 3 of place p came to is carried out; the tables are written only if A or P changed.
-    pub fn follow(&mut self, p: Place, changed: bool, frees: bool, revokes: bool)
-        ensures { slots_in self.new ≡ followed_by changed frees revokes p.0 (slots_in self.old) }
+    // What steps 2 and 3 of place p came to is carried out; the tables are written only if A or P changes.
+    pub fn follow(&mut self, p: Place, change: Change)
+        ensures { slots_in self.new ≡ followed_by change p.0 (slots_in self.old) }
     {
-        if changed {
-            self.change_each(|e| e.moved(frees, revokes, p));
+        match change {
+            Change::Waits | Change::Stays => {}
+            Change::Revokes { frees } => self.change_each(|e| e.moved(frees, true, p)),
+            Change::Claims { frees } => self.change_each(|e| e.moved(frees, false, p)),
         }
     }
 }

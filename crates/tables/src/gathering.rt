@@ -1,5 +1,5 @@
 // What one pass over the tables tells of a place, as sets of slots.
-ghost use Rattle.tables.specs.View.{slots_in};
+ghost use Rattle.tables.specs.View.{slots_in, Whole};
 ghost use Rattle.tables.specs.Gathers.{Gathers};
 
 use crate::Tables;
@@ -18,14 +18,14 @@ pub struct PlaceSets {
 impl Tables {
     // The sets of the place p, by one pass over the tables.
     pub fn gather(&self, p: Place) -> PlaceSets
-        ensures { Gathers p.0 (slots_in self.now) result }
+        ensures sets { Gathers p.0 (slots_in self.now) result }
+        ensures whole { Whole self.now }
     {
         let mut assigned = [0u64; WORDS];
         let mut revoking = [0u64; WORDS];
         let mut target = [0u64; WORDS];
         let mut claimable = [0u64; WORDS];
-        let mut next = self.next_near(p, 0);
-        while let Some(s) = next {
+        for s in self.slots_near(p) {
             let k = s / 64;
             let h = self.holder[s];
             let w = self.waiting[s];
@@ -34,7 +34,6 @@ impl Tables {
             revoking[k] = slots::mark(revoking[k], s, (h == p.0) & w);
             target[k] = slots::mark(target[k], s, t == p.0);
             claimable[k] = slots::mark(claimable[k], s, (t == p.0) & (h == NO_PLACE));
-            next = self.next_near(p, s + 1);
         }
         PlaceSets {
             assigned: SlotSet { words: assigned },

@@ -14,8 +14,9 @@ mod changing; // changing.rt: slots moved, freed or vacated
 mod gathering; // gathering.rt: the sets of a place, by one pass
 mod searching; // searching.rt: from one slot of a place to the next
 mod testing; // testing.rt: tests of a place
+mod walking; // walking.rt: the slots of a place, one after another
 
-pub use advancing::Advance;
+pub use advancing::{Advance, Change};
 pub use gathering::PlaceSets;
 
 // The tables of a group, an entry of each for a slot.

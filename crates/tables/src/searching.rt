@@ -2,7 +2,7 @@
 // branches, so that a pass over the tables costs little where few slots are the place's.
 ghost use Rattle.std.specs.Prelude.{◌≡◌, false, ◌+◌, ◌≤◌, ◌<◌};
 ghost use Rattle.rules.specs.Constants.{slot_count};
-ghost use Rattle.tables.specs.View.{slot_at};
+ghost use Rattle.tables.specs.View.{slot_at, Whole};
 ghost use Rattle.tables.specs.Places.{near, NoneNear, NextNear};
 
 use crate::Tables;
@@ -14,9 +14,10 @@ const STRIDE: usize = 8;
 impl Tables {
     // Whether the slot is near p. Both tables are looked at, without a branch.
     #[tactic(auto, unfolding(crate::specs::Places::near))]
-    fn is_near(&self, p: Place, slot: usize) -> bool
+    pub fn is_near(&self, p: Place, slot: usize) -> bool
         requires { slot < slot_count }
-        ensures { result ≡ near p.0 (slot_at self.now slot) }
+        ensures tells { result ≡ near p.0 (slot_at self.now slot) }
+        ensures whole { Whole self.now }
     {
         (self.holder[slot] == p.0) | (self.target[slot] == p.0)
     }

@@ -44,13 +44,13 @@ returns-then-goes_back c =
     let g = a.group.now in
     refusal (row_clock (view g) (request_of a.b a.owned.now) a.e a.records.now a.list.now (clock g a.b.tick c.goes_back.ensures c.if-goes_back.true))
 
-pub returns-then-is_malformed : goal.returns-then-is_malformed
+pub returns-then-is_malformed_beside_list : goal.returns-then-is_malformed_beside_list
 unfolding request_of
-returns-then-is_malformed c =
+returns-then-is_malformed_beside_list c =
     let a = c.args in
     let g = a.group.now in
     let t = clock g a.b.tick c.goes_back.ensures c.if-goes_back.false in
-    refusal (row_form (view g) (request_of a.b a.owned.now) a.e a.records.now a.list.now t (sym c.is_malformed.ensures ∙ c.if-is_malformed.true))
+    refusal (row_form (view g) (request_of a.b a.owned.now) a.e a.records.now a.list.now t (sym c.is_malformed_beside_list.ensures ∙ c.if-is_malformed_beside_list.true))
 
 pub returns-in_default : goal.returns-in_default
 unfolding request_of
@@ -58,7 +58,7 @@ returns-in_default c =
     let a = c.args in
     let g = a.group.now in
     let t = clock g a.b.tick c.goes_back.ensures c.if-goes_back.false in
-    let h = sym c.is_malformed.ensures ∙ c.if-is_malformed.false in
+    let h = sym c.is_malformed_beside_list.ensures ∙ c.if-is_malformed_beside_list.false in
     refusal
     (row_unknown (view g) (request_of a.b a.owned.now) a.e a.records.now a.list.now t h (miss _ c.in_default.is (known_in g a.b.id _ c.find.ensures))
     ∙ ap (λ (why : Refusal). denied why (view g) a.records.now a.list.now) (after_list c.given_list-given.ensures UnknownMemberId c.after_list.ensures))
@@ -71,7 +71,7 @@ returns-then-e-epoch_at c =
     let l = owned_of a.b.has_list a.owned.now in
     let p = c.in-Some.p in
     let t = clock g a.b.tick c.goes_back.ensures c.if-goes_back.false in
-    let h = sym c.is_malformed.ensures ∙ c.if-is_malformed.false in
+    let h = sym c.is_malformed_beside_list.ensures ∙ c.if-is_malformed_beside_list.false in
     let f = hit c.in-Some.is (known_in g a.b.id _ c.find.ensures) in
     refusal
     (row_fenced (view g) (asked a.b l) a.e a.records.now a.list.now t h f.found (who g a.b l p f) (ap (eqb a.e) (sym c.epoch_at.ensures) ∙ ne_eqb _ _ c.if-e-epoch_at.true)
@@ -85,7 +85,7 @@ returns-then-is_calm c =
     let l = owned_of a.b.has_list a.owned.now in
     let p = c.in-Some.p in
     let t = clock g a.b.tick c.goes_back.ensures c.if-goes_back.false in
-    let h = sym c.is_malformed.ensures ∙ c.if-is_malformed.false in
+    let h = sym c.is_malformed_beside_list.ensures ∙ c.if-is_malformed_beside_list.false in
     let f = hit c.in-Some.is (known_in g a.b.id _ c.find.ensures) in
     let e = c.if-e-epoch_at.false ∙ c.epoch_at.ensures in
     let slots = c.in-Some-given.slots.now in
@@ -107,7 +107,7 @@ returns-then-lists_badly c =
     let a = c.args in
     let g = a.group.now in
     let t = clock g a.b.tick c.goes_back.ensures c.if-goes_back.false in
-    let h = sym c.is_malformed.ensures ∙ c.if-is_malformed.false in
+    let h = sym c.is_malformed_beside_list.ensures ∙ c.if-is_malformed_beside_list.false in
     refusal (row_list (view g) (request_of a.b a.owned.now) a.e a.records.now a.list.now t h (badly c.given_list-given.ensures c.lists_badly.ensures c.if-lists_badly.true))
 
 pub returns : goal.returns
@@ -118,7 +118,7 @@ returns c =
     let l = owned_of a.b.has_list a.owned.now in
     let p = c.in-Some.p in
     let t = clock g a.b.tick c.goes_back.ensures c.if-goes_back.false in
-    let h = sym c.is_malformed.ensures ∙ c.if-is_malformed.false in
+    let h = sym c.is_malformed_beside_list.ensures ∙ c.if-is_malformed_beside_list.false in
     let f = hit c.in-Some.is (known_in g a.b.id _ c.find.ensures) in
     let e = c.if-e-epoch_at.false ∙ c.epoch_at.ensures in
     let good = badly c.given_list-given.ensures c.lists_badly.ensures c.if-lists_badly.false in

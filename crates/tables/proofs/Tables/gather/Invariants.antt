@@ -1,12 +1,10 @@
--- The four sets are filled below the next slot that is near the place, and those from one near slot to the next are stepped over.
-use Prim.Native.Nat.{◌-◌, ◌<◌}
-use Rattle.std.specs.Prelude.{IfSome}
+-- The four sets are filled below some slot, and the slots from it on are still to come.
+use Rattle.std.proofs.Common.{◌≡◌, ℕ, ◌≤◌}
 use Rattle.rules.specs.Constants.{slot_count}
-use Rattle.tables.proofs.Filling.{Four, stop}
+use Rattle.tables.specs.Walk.{near_from, rest}
+use Rattle.tables.proofs.Filling.{Four}
 use Rattle.tables.proofs.Tables.gather.Given as goal
 
-abbrev pub invariant-loop-next : goal.invariant-loop-next
-invariant-loop-next l = IfSome l.next (λ s. s < slot_count) × Four l.p.0 l.self l.assigned l.revoking l.target l.claimable (stop l.next)
-
-abbrev pub decreases-loop-next : goal.decreases-loop-next
-decreases-loop-next l = slot_count - stop l.next
+abbrev pub invariant-loop-s : goal.invariant-loop-s
+invariant-loop-s l =
+    (n : ℕ) × (n ≤ slot_count) × (rest l.s-iterator ≡ near_from l.self l.p.0 n) × Four l.p.0 l.self l.assigned l.revoking l.target l.claimable n

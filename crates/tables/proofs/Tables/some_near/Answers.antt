@@ -16,4 +16,4 @@ loop-i-preserved c =
     let a = c.args in
     λ z s p q. let o = or_false l.some c.is_near-some.result z in
     none_more (λ j. near a.p.0 (slot_at a.self.now j)) a.from (a.from + l.i) (l.invariant o.0)
-    (sym c.is_near-some.ensures ∙ o.1) s p (omega arith)
+    (sym c.is_near-some.ensures.tells ∙ o.1) s p (omega arith)
