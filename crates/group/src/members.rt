@@ -91,7 +91,7 @@ impl Members {
     pub fn find_vacant(&self) -> Option<Place>
         ensures { Finds (any vacant (view_members self.now.cells)) (find vacant (view_members self.now.cells)) result }
     {
-        let k = search::free::find(&self.cells)?;
+        let k = search::find(&self.cells, Words::NOBODY)?;
         Some(Place(k as u8))
     }
 
@@ -219,7 +219,7 @@ impl Members {
     pub fn vacate(&mut self, p: Place)
         ensures { Vacated self.old.cells p.0 self.new.cells }
     {
-        self.put_cells(p, words::NOBODY, Seat::empty());
+        self.put_cells(p, Words::NOBODY, Seat::empty());
     }
 
     // The member at a place is heard at a tick.
