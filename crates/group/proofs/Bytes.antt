@@ -1,11 +1,10 @@
 -- The bytes of an ID where they stand among all topics' IDs: compared and copied; and an ID of zeros. Assumes nothing.
-use Rattle.std.proofs.Common.{◌≡◌, ℕ, zero, suc, ◌+◌, ◌-◌, ◌*◌, ◌<◌, ◌≤◌, Bool, false, ◌&&◌, eqb, List, [], ◌∷◌, ◌++◌, length, take, drop, replicate, sym, refl, ap, ◌∙◌, arith, drop_of_length-le, length-take-le}
+use Rattle.std.proofs.Common.{◌≡◌, ℕ, ◌+◌, ◌-◌, ◌*◌, ◌<◌, ◌≤◌, Bool, false, ◌&&◌, eqb, List, [], ◌∷◌, ◌++◌, length, take, drop, sym, refl, ap, ◌∙◌, arith, drop_of_length-le, length-take-le, take_at, drop_at}
 use Rattle.std.proofs.lemmas.List.{drop-drop, drop-take, take-take}
 use native.Mathlib.Decide.{dec_lt}
 use lib.Pointwise.{pointwise}
 use Rattle.std.specs.List.{list_all}
 use Rattle.std.proofs.lemmas.List.Recursion.{same_from_clauses}
-use lib.Seq.{take_at, drop_at}
 use Rattle.rules.specs.Basics.{all, same}
 use Rattle.rules.specs.Constants.{topic_count, id_length}
 use Rattle.group.specs.Topics.{id_at, Copied}

@@ -27,7 +27,7 @@ pub const HEARD: usize = 7 * MEMBERS;
 pub const REVOKED_AT: usize = 8 * MEMBERS;
 
 // Nine columns, one after another.
-// As it is: speed, a search and a sweep go over one column of all places, which a struct for each place would scatter; and `view_members` of specs/ reads them so.
+// As it is: the C interface, whose `struct pankvisolo_group` of include/pankvisolo.h has these columns, `member_ids` to `revoked_at`, for hosts to read.
 #[repr(C)]
 #[derive(Clone, Copy)]
 pub struct Members {
