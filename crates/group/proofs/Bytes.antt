@@ -1,9 +1,10 @@
 -- The bytes of an ID where they stand among all topics' IDs: compared and copied; and an ID of zeros. Assumes nothing.
-use Rattle.std.proofs.Common.{◌≡◌, ℕ, zero, suc, ◌+◌, ◌-◌, ◌*◌, ◌<◌, ◌≤◌, Bool, false, ◌&&◌, eqb, List, [], ◌∷◌, ◌++◌, length, take, drop, replicate, sym, refl, ap, ◌∙◌, arith, drop_of_length-le, length-take-le}
+use Rattle.std.proofs.Common.{◌≡◌, ℕ, ◌+◌, ◌-◌, ◌*◌, ◌<◌, ◌≤◌, Bool, false, ◌&&◌, eqb, List, [], ◌∷◌, ◌++◌, length, take, drop, sym, refl, ap, ◌∙◌, arith, drop_of_length-le, length-take-le, take_at, drop_at}
 use Rattle.std.proofs.lemmas.List.{drop-drop, drop-take, take-take}
 use native.Mathlib.Decide.{dec_lt}
 use lib.Pointwise.{pointwise}
-use lib.Seq.{take_at, drop_at}
+use Rattle.std.specs.List.{list_all}
+use Rattle.std.proofs.lemmas.List.Recursion.{same_from_clauses}
 use Rattle.rules.specs.Basics.{all, same}
 use Rattle.rules.specs.Constants.{topic_count, id_length}
 use Rattle.group.specs.Topics.{id_at, Copied}
@@ -16,11 +17,8 @@ same_is [] (y ∷ ys) = refl
 same_is (x ∷ xs) [] = refl
 same_is (x ∷ xs) (y ∷ ys) = ap (λ (v : Bool). eqb x y && v) (same_is xs ys)
 
-pub zero_is : (n : ℕ) (a : List ℕ) → length a ≡ n → pointwise eqb a (replicate n 0) ≡ all (λ b. eqb b 0) a
-zero_is zero [] h = refl
-zero_is zero (x ∷ xs) h = absurd (omega (arith, h))
-zero_is (suc n) [] h = absurd (omega (arith, h))
-zero_is (suc n) (x ∷ xs) h = ap (λ (v : Bool). eqb x 0 && v) (zero_is n xs (omega (arith, h)))
+pub all_is : (f : ℕ → Bool) (l : List ℕ) → list_all f l ≡ all f l
+all_is f = same_from_clauses (list_all f) (all f) (λ x b. f x && b) refl (λ _ _. refl) (λ _ _. refl)
 
 -- past the last topic there are no bytes
 pub past_id : (ids : List ℕ) (t : ℕ) (id : List ℕ) → length ids ≡ topic_count * id_length → topic_count ≤ t → length id ≡ id_length → same (id_at ids t) id ≡ false

@@ -3,7 +3,7 @@
 use Rattle.std.specs.Prelude.{None, Some}
 use Rattle.std.specs.Prelude as P
 use Rattle.std.proofs.Common.{◌≡◌, ℕ, Bool, true, false, List, get_or, sym, refl, ap, ◌∙◌, subst}
-use mathlib.Core.Option.{Option, none, some}
+use mathlib.Core.Option.{none, some}
 use Rattle.rules.specs.Basics.{any, find}
 use Rattle.rules.specs.Group.{is_member}
 use Rattle.rules.specs.declared.Place.{Place}

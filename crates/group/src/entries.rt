@@ -7,6 +7,7 @@ ghost use Rattle.group.specs.Entries.{Wanted, entry_bad, FirstBad};
 ghost use Rattle.group.specs.View.{view};
 
 use crate::Group;
+use crate::subscribers::includes_topic;
 use rules::{MEMBERS, NO_PLACE, PARTITIONS, TOPICS};
 
 // What the entries are tried against: the count of each topic, the subscription at each place, and the topics whose slots may not be left with none.
@@ -37,22 +38,15 @@ impl Trial {
         ensures { result ≡ entry_bad self.now.counts self.now.subscriptions self.now.wanted slot entry }
     {
         let topic = slot / PARTITIONS;
-        if TOPICS <= topic {
-            return entry != NO_PLACE;
-        }
         let partition = (slot % PARTITIONS) as u8;
-        if self.counts[topic] <= partition {
+        if TOPICS <= topic || self.counts[topic] <= partition {
             return entry != NO_PLACE;
         }
         if entry == NO_PLACE {
-            return (self.wanted >> topic) % 2 == 1;
+            return includes_topic(self.wanted, topic as u32);
         }
         let place = entry as usize;
-        if MEMBERS <= place {
-            return true;
-        }
-        let subscription = self.subscriptions[place];
-        (subscription >> topic) % 2 != 1
+        MEMBERS <= place || !includes_topic(self.subscriptions[place], topic as u32)
     }
 
     // The first slot whose entry may not stand.

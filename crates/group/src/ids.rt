@@ -2,11 +2,11 @@
 ghost use Rattle.std.specs.Prelude.{◌≡◌};
 ghost use Rattle.rules.specs.Refusals.{zero_id};
 
-use rules::{ID_LENGTH, Id};
+use rules::Id;
 
 // Whether an ID is all zero, which no member or topic may have.
 pub fn is_zero(id: Id) -> bool
     ensures { result ≡ zero_id id }
 {
-    id == [0; ID_LENGTH]
+    id.iter().all(|byte| *byte == 0)
 }

@@ -4,21 +4,14 @@ ghost use Rattle.std.specs.Prelude.{◌≡◌, max};
 ghost use Rattle.group.specs.Transitions.{member_of, seat_of, member_rejoined, member_freed, member_revoked, member_advanced, member_stored, member_heard};
 
 use crate::Seat;
-use rules::Id;
 use slots::{SlotSet, WORDS};
 
-// A member: `assigned` is 01's A and `revoking` its P.
-// As it is: the promises of its methods in specs/Transitions name each field of a member, those that a seat has too.
+// A member: its seat; `assigned` is 01's A and `revoking` its P.
 #[derive(Clone, Copy)]
 pub struct Member {
-    pub id: Id,
-    pub epoch: u32,
-    pub subscription: u16,
-    pub timeout: u32,
+    pub seat: Seat,
     pub assigned: SlotSet,
     pub revoking: SlotSet,
-    pub heard: u32,
-    pub revoked_at: u32,
 }
 
 impl Member {
@@ -26,16 +19,10 @@ impl Member {
     pub fn gathered(seat: Seat, assigned: SlotSet, revoking: SlotSet) -> Member
         ensures { result ≡ member_of seat assigned revoking }
     {
-        let id = seat.id;
         Member {
-            id: id,
-            epoch: seat.epoch,
-            subscription: seat.subscription,
-            timeout: seat.timeout,
-            assigned: assigned,
-            revoking: revoking,
-            heard: seat.heard,
-            revoked_at: seat.revoked_at,
+            seat,
+            assigned,
+            revoking,
         }
     }
 
@@ -43,15 +30,7 @@ impl Member {
     pub fn seat(self) -> Seat
         ensures { result ≡ seat_of self }
     {
-        let id = self.id;
-        Seat {
-            id: id,
-            epoch: self.epoch,
-            subscription: self.subscription,
-            timeout: self.timeout,
-            heard: self.heard,
-            revoked_at: self.revoked_at,
-        }
+        self.seat
     }
 
     // The member joins again: another epoch, subscription and timeout, no slots, and both ticks those of the join.
@@ -59,15 +38,8 @@ impl Member {
         ensures { result ≡ member_rejoined self epoch subscription timeout tick }
     {
         let none = SlotSet { words: [0; WORDS] };
-        let mut next = self;
-        next.epoch = epoch;
-        next.subscription = subscription;
-        next.timeout = timeout;
-        next.assigned = none;
-        next.revoking = none;
-        next.heard = tick;
-        next.revoked_at = tick;
-        next
+        let seat = Seat::joined(self.seat.id, epoch, subscription, timeout, tick);
+        Member::gathered(seat, none, none)
     }
 
     // P is freed; the tick at which it was set stays.
@@ -87,7 +59,7 @@ impl Member {
         let mut next = self;
         next.assigned = kept;
         next.revoking = strays;
-        next.revoked_at = tick;
+        next.seat.revoked_at = tick;
         next
     }
 
@@ -96,7 +68,7 @@ impl Member {
         ensures { result ≡ member_advanced self target_epoch assigned }
     {
         let mut next = self;
-        next.epoch = self.epoch.max(target_epoch);
+        next.seat.epoch = self.seat.epoch.max(target_epoch);
         next.assigned = assigned;
         next
     }
@@ -106,8 +78,8 @@ impl Member {
         ensures { result ≡ member_stored self subscription timeout }
     {
         let mut stored = self;
-        stored.subscription = subscription;
-        stored.timeout = timeout;
+        stored.seat.subscription = subscription;
+        stored.seat.timeout = timeout;
         stored
     }
 
@@ -116,7 +88,7 @@ impl Member {
         ensures { result ≡ member_heard self tick }
     {
         let mut later = self;
-        later.heard = tick;
+        later.seat.heard = tick;
         later
     }
 }

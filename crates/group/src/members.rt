@@ -27,7 +27,7 @@ pub const HEARD: usize = 7 * MEMBERS;
 pub const REVOKED_AT: usize = 8 * MEMBERS;
 
 // Nine columns, one after another.
-// As it is: speed, a search and a sweep go over one column of all places, which a struct for each place would scatter; and `view_members` of specs/ reads them so.
+// As it is: the C interface, whose `struct pankvisolo_group` of include/pankvisolo.h has these columns, `member_ids` to `revoked_at`, for hosts to read.
 #[repr(C)]
 #[derive(Clone, Copy)]
 pub struct Members {
@@ -99,7 +99,7 @@ impl Members {
     pub fn find_vacant(&self) -> Option<Place>
         ensures { Finds (any vacant (view_members self.now.cells)) (find vacant (view_members self.now.cells)) result }
     {
-        let k = search::free::find(&self.cells)?;
+        let k = search::find(&self.cells, Words::NOBODY)?;
         Some(Place(k as u8))
     }
 
@@ -227,7 +227,7 @@ impl Members {
     pub fn vacate(&mut self, p: Place)
         ensures { Vacated self.old.cells p.0 self.new.cells }
     {
-        self.put_cells(p, words::NOBODY, Seat::empty());
+        self.put_cells(p, Words::NOBODY, Seat::empty());
     }
 
     // The member at a place is heard at a tick.

@@ -14,7 +14,7 @@ use rules::{MEMBERS, Place, SESSION_TIMEOUT, TOPIC_END};
 
 // Whether a subscription has a topic.
 #[tactic(auto, using(crate::proofs::Installing::past_topics), unfolding(rules::specs::Group::includes_topic))]
-fn includes_topic(subscription: u16, topic: u32) -> bool
+pub(crate) fn includes_topic(subscription: u16, topic: u32) -> bool
     ensures { result ≡ includes_topic topic subscription }
 {
     topic < TOPIC_END && (subscription >> topic) % 2 == 1

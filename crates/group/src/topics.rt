@@ -14,7 +14,7 @@ use crate::{Group, TOPIC_BYTES, ids};
 use rules::{ID_LENGTH, Id, MAX_COUNT, TOPIC_END, TOPICS};
 
 // With count 0 there is no topic of the number.
-// As it is: `view_topics` of specs/ reads the two arrays as they lie in the struct that the C interface lends.
+// As it is: the C interface, whose `struct pankvisolo_group` of include/pankvisolo.h has these arrays, `topic_ids` and `topic_counts`, for hosts to read.
 #[repr(C)]
 #[derive(Clone, Copy)]
 pub struct Topics {

@@ -33,19 +33,11 @@ pub fn words_of(id: Id) -> Words
     }
 }
 
-// The words of no ID.
-pub const NOBODY: Words = Words {
-    a: 0,
-    b: 0,
-    c: 0,
-    d: 0,
-};
-
 // Whether they are the words of no ID.
 pub fn all_zero(w: Words) -> bool
     ensures { result ≡ all_zero w.a w.b w.c w.d }
 {
-    w == NOBODY
+    w == Words::NOBODY
 }
 
 // The first of the four words of an ID.

@@ -1,11 +1,6 @@
 -- What a heartbeat that leaves comes to, by the tests of its rows; and the effect's records and group, by what the code decides.
-use Prim.Native.Nat.{ℕ}
-use mathlib.Core.Path.{◌≡◌, ap, ◌∙◌}
-use mathlib.Core.Bool.{Bool, true, false, not}
-use mathlib.Core.List.{List, map}
+use Rattle.std.proofs.Common.{ℕ, ◌≡◌, ap, ◌∙◌, Bool, true, false, not, List, map, leb, set}
 use mathlib.Core.Option.{none}
-use lib.Dec.{leb}
-use lib.ListN.{set}
 use Rattle.std.specs.Bool.{then_some}
 use Rattle.rules.specs.Basics.{any}
 use Rattle.rules.specs.Constants.{last_epoch}

@@ -145,16 +145,16 @@ module _ (g : G.Group) (b : Request) (owned : Option (List ℕ)) (p : Place) (se
   -- ---- the plan
 
   module _ (n : Member) (hn : n ≡ next) (ht : followed_by step.change p.0 vs ≡ advanced p.0 vs owned) (u v : Bool)
-      (hu : u ≡ (not (eqb n.subscription seat.subscription) || not (eqb n.timeout seat.timeout)))
-      (hv : v ≡ (not (eqb n.epoch seat.epoch) || moves_in step.change)) where
+      (hu : u ≡ (not (eqb n.seat.subscription seat.subscription) || not (eqb n.seat.timeout seat.timeout)))
+      (hv : v ≡ (not (eqb n.seat.epoch seat.epoch) || moves_in step.change)) where
     who : view_member n ≡ member_after g sender request
     who = ap view_member hn ∙ member_so
 
-    raises_so : not (eqb n.subscription seat.subscription) ≡ resubscribes (seated seat) request
+    raises_so : not (eqb n.seat.subscription seat.subscription) ≡ resubscribes (seated seat) request
     unfolding resubscribes member_after
     raises_so = λ i. not (eqb (who i).subscription seat.subscription)
 
-    pub plan_is : PlanIs g (record { place = p; seat = seat }) request (record { member = n; change = step.change; updates = u; raises = not (eqb n.subscription seat.subscription); moves = v })
+    pub plan_is : PlanIs g (record { place = p; seat = seat }) request (record { member = n; change = step.change; updates = u; raises = not (eqb n.seat.subscription seat.subscription); moves = v })
     unfolding member_after updates moves current_of current_before current_after slots_after view_current
     plan_is = record {
       member_is = who;

@@ -87,10 +87,10 @@ member_next s sets step b target =
 
 -- records 5 and 8 of a member at a place
 abbrev pub metadata_in : Place → Member → MemberMetadata
-metadata_in p m = record { place = p; id = m.id; timeout = m.timeout; subscription = m.subscription }
+metadata_in p m = record { place = p; id = m.seat.id; timeout = m.seat.timeout; subscription = m.seat.subscription }
 
 abbrev pub current_in : Place → Member → CurrentAssignment
-current_in p m = record { place = p; epoch = m.epoch; assigned = m.assigned; revoking = m.revoking }
+current_in p m = record { place = p; epoch = m.seat.epoch; assigned = m.assigned; revoking = m.revoking }
 
 -- k is the plan of the heartbeat b of the sender s
 pub record PlanIs (g : G.Group) (s : Sender) (b : E.Request) (k : Plan) : Type 0 where
@@ -120,7 +120,7 @@ epoch_by k e = if k.raises then raised e else e
 -- the effect of a plan for the member at place p
 unfoldable pub planned : G.Group → Place → ℕ → Plan → Effect
 planned g p tick k = record {
-  answer = Assigned (record { epoch = k.member.epoch; interval = heartbeat_interval; count = length (slots_of k.member.assigned.words) });
+  answer = Assigned (record { epoch = k.member.seat.epoch; interval = heartbeat_interval; count = length (slots_of k.member.assigned.words) });
   group = changed g (epoch_by k g.epoch) tick (set g.members p.0 (some (view_member k.member))) (followed_by k.change p.0 g.slots);
   records = ordinary_batch (batch_of k p (epoch_by k g.epoch));
   told = slots_of k.member.assigned.words;

@@ -30,7 +30,7 @@ fn carry(
     records: &mut [u8],
     list: &mut [u16],
 ) -> Result<Outcome, Refusal>
-    ensures { zero_id k.now.member.id ≡ false → Becomes topics_of (outcome_of result) group.old group.new records.new list.new (λ g. carried g (planned g p tick k.now) records.old list.old) }
+    ensures { zero_id k.now.member.seat.id ≡ false → Becomes topics_of (outcome_of result) group.old group.new records.new list.new (λ g. carried g (planned g p tick k.now) records.old list.old) }
 {
     let count = k.member.assigned.count();
     if list.len() < count as usize {
@@ -46,7 +46,7 @@ fn carry(
     group.head.tick = tick;
     Ok(Outcome {
         answer: Answer::Assigned(Assignment {
-            epoch: k.member.epoch,
+            epoch: k.member.seat.epoch,
             interval: HEARTBEAT_INTERVAL,
             count: count,
         }),

@@ -68,13 +68,13 @@ pub fn make_plan(group: &Group, s: Sender, b: Request, owned: Option<&[u16]>) ->
     let sets = group.tables.gather(s.place);
     let step = sets.advance(owned);
     let next = next_member(seat, &sets, &step, b, group.head.target_epoch);
-    let raises = next.subscription != seat.subscription;
+    let raises = next.seat.subscription != seat.subscription;
     Plan {
         member: next,
         change: step.change,
-        updates: raises | (next.timeout != seat.timeout),
+        updates: raises | (next.seat.timeout != seat.timeout),
         raises: raises,
-        moves: (next.epoch != seat.epoch) | step.change.moves(),
+        moves: (next.seat.epoch != seat.epoch) | step.change.moves(),
     }
 }
 
@@ -83,16 +83,16 @@ pub fn batch(k: &Plan, p: Place, epoch: u32) -> OrdinaryBatch
     ensures { result ≡ batch_of k.now p epoch }
 {
     let m = &k.member;
-    let id = m.id;
+    let id = m.seat.id;
     let metadata = MemberMetadata {
         place: p,
         id: id,
-        timeout: m.timeout,
-        subscription: m.subscription,
+        timeout: m.seat.timeout,
+        subscription: m.seat.subscription,
     };
     let current = CurrentAssignment {
         place: p,
-        epoch: m.epoch,
+        epoch: m.seat.epoch,
         assigned: m.assigned,
         revoking: m.revoking,
     };

@@ -1,20 +1,11 @@
 -- The first of a list that passes; and IDs compared by their four words.
-use Prim.Native.Nat.{ℕ, zero, suc, ◌+◌, ◌-◌, ◌*◌, ◌/◌, ◌%◌, ◌≤◌, ◌<◌}
-use native.Mathlib.Nat.{not-suc-le-zero, le_of_suc-le-suc}
+use Rattle.std.proofs.Common.{ℕ, zero, suc, ◌+◌, ◌-◌, ◌*◌, ◌/◌, ◌%◌, ◌≤◌, ◌<◌, not-suc-le-zero, le_of_suc-le-suc, arith, ◌≡◌, refl, sym, ap, ap₂, ◌∙◌, Bool, true, false, ◌&&◌, List, [], ◌∷◌, eqb, length, get_or, eq-eqb, eqb-true}
 use native.Mathlib.Decide.{dec_lt}
-use native.Mathlib.Omega.{arith}
-use mathlib.Core.Path.{◌≡◌, refl, sym, ap, ap₂, ◌∙◌}
-use mathlib.Core.Bool.{Bool, true, false, ◌&&◌}
-use mathlib.Core.List.{List, [], ◌∷◌}
-use lib.Dec.{eqb}
-use lib.ListN.{length, get_or}
 use Rattle.std.specs.Prelude.{cond, count_by, slice_range}
 use Rattle.std.proofs.lemmas.List.{places}
 use Rattle.std.proofs.lemmas.List.Sums.{get_or-le-sum_by}
-use borrow.Author.Tests.{eq-eqb, eqb-true}
 use Rattle.rules.specs.Basics.{any, find, same}
 use Rattle.rules.proofs.Lists.{same_refl, same_eq, and_true}
-use Rattle.rules.specs.Constants.{max_members}
 use Rattle.search.specs.Places.{step, first_word, id_of}
 
 -- ---- the first that passes

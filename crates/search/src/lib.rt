@@ -1,4 +1,4 @@
-// The place of an ID, from the members' columns: 16 places at a time without a branch, by the first of its four words; then place by place.
+// The place of an ID, or the first free one, from the members' columns: 16 places at a time without a branch, by the first of its four words; then place by place.
 #![tactic(auto)]
 
 ghost use Rattle.std.specs.Prelude.{◌≡◌, ◌+◌, ◌≤◌, ◌<◌, eqb, count_by, slice_range};
@@ -7,7 +7,6 @@ ghost use Rattle.search.specs.Places.{cell_count, step, matches, FirstIn, FirstP
 
 use rules::MEMBERS;
 
-pub mod free; // free.rt: the lowest free place
 pub mod rising; // rising.rt: whether a list is a set of slots
 
 // The columns of the members, each with an entry for each place: the four words of the ID come first. Column c of place k is entry k + c * MEMBERS.
@@ -34,6 +33,16 @@ pub struct Words {
     pub b: u32,
     pub c: u32,
     pub d: u32,
+}
+
+impl Words {
+    // The words of nobody's ID: where they stand, the place is free.
+    pub const NOBODY: Words = Words {
+        a: 0,
+        b: 0,
+        c: 0,
+        d: 0,
+    };
 }
 
 // How often a word stands among a step's entries.

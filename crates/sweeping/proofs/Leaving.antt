@@ -1,14 +1,8 @@
 -- The members that go, entry by entry: those at the marked places; and what is stored of them and what becomes of the group, one after another.
-use Prim.Native.Nat.{ℕ, suc, ◌+◌, ◌-◌, ◌≤◌, ◌<◌}
-use native.Mathlib.Omega.{arith}
-use native.Mathlib.Numerals.{add-one}
-use mathlib.Core.Path.{◌≡◌, refl, sym, ap, ◌∙◌}
-use mathlib.Core.Bool.{Bool, true, false}
-use mathlib.Core.List.{List, [], ◌∷◌, ◌++◌, map, foldl, append-nil}
+use Rattle.std.proofs.Common.{ℕ, suc, ◌+◌, ◌≤◌, ◌<◌, arith, add-one, ◌≡◌, refl, sym, ap, ◌∙◌, Bool, true, false, List, [], ◌∷◌, ◌++◌, map, append-nil, length, get_or, set, drop, drop_of_length-le, replicate, length-set, length-append, drop-cons, get_or-set_other, below_more}
+use mathlib.Core.List.{foldl}
 use mathlib.Core.Option as M
-use lib.ListN.{length, get_or, set, drop, drop_of_length-le, replicate, get_or-replicate, length-set, length-append}
-use lib.Seq.{drop-cons, get_or-set_other}
-use borrow.Author.Count.{below_more}
+use lib.ListN.{get_or-replicate}
 use Rattle.std.specs.Prelude.{Option, None, Some}
 use Rattle.std.specs.Bool.{then_some}
 use Rattle.numbers.specs.Buffer.{flat}

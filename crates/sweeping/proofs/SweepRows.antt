@@ -1,13 +1,7 @@
 -- What a sweep comes to, by its one row; and its effect, by the members that go: where there is none only the tick changes, and else G rises once.
 use Rattle.std.specs.Prelude.{if◌then◌else◌, Option}
-use Prim.Native.Nat.{ℕ, ◌≤◌}
-use native.Mathlib.Omega.{arith}
-use mathlib.Core.Path.{◌≡◌, refl, sym, ap, ◌∙◌}
-use mathlib.Core.Bool.{Bool, true, false, not, ◌&&◌}
-use mathlib.Core.List.{List, [], ◌∷◌, ◌++◌, foldl}
-use lib.Dec.{leb}
-use lib.ListN.{length}
-use borrow.Author.Tests.{le-ltb}
+use Rattle.std.proofs.Common.{ℕ, ◌≤◌, arith, ◌≡◌, refl, sym, ap, ◌∙◌, Bool, true, false, not, ◌&&◌, List, [], ◌∷◌, ◌++◌, leb, length, le-ltb}
+use mathlib.Core.List.{foldl}
 use Rattle.std.specs.Bool.{then_some}
 use Rattle.rules.specs.Basics.{empty}
 use Rattle.rules.specs.Constants.{last_epoch}

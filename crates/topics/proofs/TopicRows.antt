@@ -1,14 +1,7 @@
 -- What a topic event comes to, by the tests of its rows; and the effect's records and group, by what the code decides.
 use Rattle.std.specs.Prelude.{if◌then◌else◌}
-use Prim.Native.Nat.{ℕ, ◌<◌}
-use native.Mathlib.Omega.{arith}
-use mathlib.Core.Path.{◌≡◌, sym, ap, ◌∙◌}
-use mathlib.Core.Bool.{Bool, true, false, ◌&&◌}
-use mathlib.Core.List.{List}
+use Rattle.std.proofs.Common.{ℕ, ◌<◌, arith, ◌≡◌, sym, ap, ◌∙◌, Bool, true, false, ◌&&◌, List, leb, set, ne_eqb}
 use mathlib.Core.Option.{some}
-use lib.Dec.{leb}
-use lib.ListN.{set}
-use borrow.Author.Tests.{ne_eqb}
 use Rattle.std.specs.Bool.{then_some}
 use Rattle.rules.specs.Constants.{last_epoch}
 use Rattle.rules.specs.Group.{Group, raised}

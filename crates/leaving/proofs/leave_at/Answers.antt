@@ -1,6 +1,5 @@
 -- The records and the group are those of the effect.
-use mathlib.Core.Bool.{not}
-use mathlib.Core.Path.{refl, ap}
+use Rattle.std.proofs.Common.{not, refl, ap}
 use Rattle.rules.specs.Effects.{leave_at}
 use Rattle.group.specs.View.{view}
 use Rattle.events.proofs.Ending.{no_room, written}

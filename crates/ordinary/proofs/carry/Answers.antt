@@ -72,6 +72,6 @@ returns c = λ real.
     let group = group_changed a.group.now after (epoch_by a.k.now a.group.now.head.epoch) a.tick head refl members c.follow.ensures in (
       tt,
       refl,
-      (λ i. took (record { answer = Assigned (record { epoch = m.epoch; interval = heartbeat_interval; count = n i }); written = c.in_ok-written.written }) (view after) c.store.new.buf c.list_slots.new.out)
+      (λ i. took (record { answer = Assigned (record { epoch = m.seat.epoch; interval = heartbeat_interval; count = n i }); written = c.in_ok-written.written }) (view after) c.store.new.buf c.list_slots.new.out)
           ∙ carried_out f a.records.now a.list.now g (view after) s.0 room group s.1 c.list_slots.ensures.bytes,
     )

@@ -33,7 +33,7 @@ module _ (g : D.Group) (p : Place) (b : E.Request) (l : Option (List ℕ)) where
     is_plan : {s : Seat} → Some s ≡ Some (numbers_at g.members.cells p.0) → Plans (view g) (record { place = p; seat = s }) b l k → PlanIs (view g) (sender_at g.members.cells p) (asked b l) k
     is_plan {s} e i = let q : s ≡ numbers_at g.members.cells p.0 = cc in subst (λ (x : Seat). Plans (view g) (record { place = p; seat = x }) b l k) q i sent.below sent.own
 
-    real : PlanIs (view g) (sender_at g.members.cells p) (asked b l) k → zero_id k.member.id ≡ false
+    real : PlanIs (view g) (sender_at g.members.cells p) (asked b l) k → zero_id k.member.seat.id ≡ false
     unfolding member_after
     real i = ap (λ (m : Member). zero_id m.id) i.member_is ∙ sent.real
 

@@ -1,9 +1,4 @@
-use native.Mathlib.Omega.{arith}
-use mathlib.Core.Bool.{Bool}
-use mathlib.Core.List.{List}
-use mathlib.Core.Path.{ap, ◌∙◌}
-use lib.Seq.{take_all}
-use Rattle.std.proofs.Common.{count_by}
+use Rattle.std.proofs.Common.{count_by, arith, Bool, List, ap, ◌∙◌, take_all}
 use Rattle.sweeping.proofs.Counting.{count_marked}
 use Rattle.sweeping.proofs.count_marks.Goals as goal
 

@@ -1,5 +1,4 @@
-use native.Mathlib.Omega.{arith}
-use mathlib.Core.Path.{refl}
+use Rattle.std.proofs.Common.{arith, refl}
 use Rattle.sweeping.proofs.Leaving.{removed, remove_one, remove_none, remove_end}
 use Rattle.sweeping.proofs.remove_all.Goals.{in-Some, in_default}
 use Rattle.sweeping.proofs.remove_all.Goals as goal

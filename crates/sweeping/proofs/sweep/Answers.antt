@@ -1,7 +1,5 @@
 -- The row of the clock, or else the effect at the places that are marked.
-use Prim.Native.Nat.{ℕ}
-use mathlib.Core.List.{List}
-use mathlib.Core.Path.{refl, sym, ap, ◌∙◌}
+use Rattle.std.proofs.Common.{ℕ, List, refl, sym, ap, ◌∙◌}
 use Rattle.rules.specs.Effects.{sweep_of}
 use Rattle.group.specs.View.{view}
 use Rattle.events.specs.Outcomes.{carried}

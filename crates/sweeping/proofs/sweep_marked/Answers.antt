@@ -1,9 +1,5 @@
 -- By the count: nobody goes; or some do, and the records and the group are those of the effect.
-use Prim.Native.Nat.{◌≤◌}
-use native.Mathlib.Omega.{arith}
-use mathlib.Core.Bool.{not}
-use mathlib.Core.Path.{refl, sym, ap, ◌∙◌}
-use lib.ListN.{length}
+use Rattle.std.proofs.Common.{◌≤◌, arith, not, refl, sym, ap, ◌∙◌, length}
 use Rattle.rules.specs.Effects.{sweep_of}
 use Rattle.rules.specs.declared.Answer.TheVariants.{Swept}
 use Rattle.group.specs.View.{view}

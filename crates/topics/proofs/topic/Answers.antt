@@ -1,6 +1,5 @@
 -- At each return the tests that led there say which row applies, or that none does; then the records and the group are those of the effect.
-use native.Mathlib.Omega.{arith}
-use mathlib.Core.Path.{refl, sym, ◌∙◌}
+use Rattle.std.proofs.Common.{arith, refl, sym, ◌∙◌}
 use Rattle.rules.specs.Effects.{topic_effect}
 use Rattle.group.specs.View.{view}
 use Rattle.group.proofs.Rows.{topic_good}

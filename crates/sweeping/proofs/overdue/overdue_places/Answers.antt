@@ -1,6 +1,5 @@
 -- A member is due by the mark of its place; where no slot waits, no place has slots to give back.
-use mathlib.Core.Bool.{false}
-use mathlib.Core.Path.{sym, ◌∙◌}
+use Rattle.std.proofs.Common.{false, sym, ◌∙◌}
 use Rattle.sweeping.specs.Marks.{mark}
 use Rattle.sweeping.proofs.Marking.{none_revoking, due_overdue}
 use Rattle.sweeping.proofs.overdue.overdue_places.Goals as goal

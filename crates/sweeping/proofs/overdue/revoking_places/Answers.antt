@@ -1,8 +1,5 @@
-use native.Mathlib.Omega.{arith}
-use mathlib.Core.Bool.{false}
-use mathlib.Core.Path.{refl, ap, ◌∙◌}
-use lib.ListN.{get_or-replicate, length-set}
-use lib.Seq.{take_all}
+use Rattle.std.proofs.Common.{arith, false, refl, ap, ◌∙◌, length-set, take_all}
+use lib.ListN.{get_or-replicate}
 use Rattle.rules.specs.Basics.{any}
 use Rattle.rules.specs.Constants.{max_members}
 use Rattle.rules.specs.Group.{revoking}

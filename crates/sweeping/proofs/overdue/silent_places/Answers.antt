@@ -1,8 +1,5 @@
-use native.Mathlib.Omega.{arith}
-use mathlib.Core.Bool.{false}
+use Rattle.std.proofs.Common.{arith, false, ◌∙◌, get_or}
 use mathlib.Core.Option.{none}
-use mathlib.Core.Path.{◌∙◌}
-use lib.ListN.{get_or}
 use Rattle.rules.specs.Effects.{due}
 use Rattle.group.specs.Columns.{view_members}
 use Rattle.slots.proofs.Each.{store_next}

@@ -1,6 +1,4 @@
-use native.Mathlib.Omega.{arith}
-use mathlib.Core.Bool.{Bool}
-use mathlib.Core.Path.{ap}
+use Rattle.std.proofs.Common.{arith, Bool, ap}
 use Rattle.tables.specs.View.{slots_in}
 use Rattle.sweeping.proofs.Leaving.{fill_begin, fill_one, fill_none, all_leave}
 use Rattle.sweeping.proofs.storing.gone_batches.Goals.{then-goes, else-goes}

@@ -1,5 +1,5 @@
 -- A member is where the words of its ID are, and nobody has the zero ID.
-use Rattle.std.proofs.Common.{◌≡◌, ◌<◌, length, get_or, w32, Fits, false, sym, ◌∙◌, rules}
+use Rattle.std.proofs.Common.{◌≡◌, ◌<◌, length, get_or, w32, Fits, sym, ◌∙◌, rules}
 use Rattle.rules.specs.Group.{is_member}
 use Rattle.search.specs.Places.{matches}
 use Rattle.group.specs.Columns as C

@@ -1,7 +1,4 @@
-use Prim.Native.Nat.{ℕ}
-use native.Mathlib.Omega.{arith}
-use mathlib.Core.List.{List, [], ◌++◌, append-nil}
-use mathlib.Core.Path.{refl, ap, ◌∙◌}
+use Rattle.std.proofs.Common.{ℕ, arith, List, [], ◌++◌, append-nil, refl, ap, ◌∙◌}
 use Rattle.numbers.proofs.Writing.{begin, cut, room_at, put_at_lem, ended}
 use Rattle.sweeping.proofs.Leaving.{bytes_in, sweep_bytes, left_next, all_written}
 use Rattle.sweeping.proofs.storing.SweepBatchEncode.put.Goals as goal

@@ -1,6 +1,5 @@
 -- What is stored of the entries from the index on is to come (`Writing`), and then the epoch.
-use mathlib.Core.List.{[], ◌∷◌}
-use lib.ListN.{drop}
+use Rattle.std.proofs.Common.{[], ◌∷◌, drop}
 use Rattle.rules.specs.Records.{all_bytes}
 use Rattle.numbers.proofs.Writing.{Writing}
 use Rattle.sweeping.specs.Leavers.{sweep_batch}

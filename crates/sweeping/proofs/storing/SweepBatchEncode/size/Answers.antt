@@ -1,6 +1,4 @@
-use native.Mathlib.Omega.{arith}
-use mathlib.Core.Path.{ap}
-use lib.ListN.{length, length-append}
+use Rattle.std.proofs.Common.{arith, ap, length, length-append}
 use Rattle.sweeping.proofs.Leaving.{bytes_in, epoch_in, sweep_bytes, length_next, length_end}
 use Rattle.sweeping.proofs.storing.SweepBatchEncode.size.Goals as goal
 

@@ -1,7 +1,5 @@
 -- The length so far and that of the entries from the index on make up the whole.
-use Prim.Native.Nat.{◌+◌, ◌*◌, ◌≤◌}
-use mathlib.Core.Path.{◌≡◌}
-use lib.ListN.{length, drop}
+use Rattle.std.proofs.Common.{◌+◌, ◌*◌, ◌≤◌, ◌≡◌, length, drop}
 use Rattle.rules.specs.Constants.{slot_count}
 use Rattle.sweeping.proofs.Leaving.{bytes_in}
 use Rattle.sweeping.proofs.storing.SweepBatchEncode.size.Given as goal
