@@ -1,19 +1,12 @@
 -- One record more: what is said by the records so far and by the next one.
-use Rattle.std.specs.Prelude.{if◌then◌else◌}
-use mathlib.Core.Path.{◌≡◌, refl, sym, ap, ◌∙◌}
-use mathlib.Core.Bool.{Bool, true, false, not, ◌&&◌, ◌||◌, or-false, or-true}
-use mathlib.Core.List.{List, [], ◌∷◌, ◌++◌, foldl, append-nil, append_assoc, foldl-append}
+use Rattle.std.proofs.Common.{◌≡◌, refl, sym, ap, ◌∙◌, Bool, true, false, not, ◌&&◌, ◌||◌, List, [], ◌∷◌, ◌++◌, append-nil, append_assoc, ℕ, ◌<◌, arith, length, get_or, set, replicate, get_or-set_same, get_or-set_other, eqb, ltb, eq-eqb, ne_eqb, lt-ltb, le-ltb, OkIff, Result}
+use mathlib.Core.Bool.{or-false, or-true}
+use mathlib.Core.List.{foldl, foldl-append}
 use mathlib.Core.Option.{Option, none, some}
-use Prim.Native.Nat.{ℕ, ◌<◌}
 use native.Mathlib.Decide.{ℕ_discrete}
-use native.Mathlib.Omega.{arith}
-use lib.ListN.{length, get_or, set, replicate, get_or-replicate}
-use lib.Seq.{get_or-set_same, get_or-set_other}
-use lib.Dec.{eqb, ltb}
-use borrow.Author.Tests.{eq-eqb, ne_eqb, lt-ltb, le-ltb}
+use lib.ListN.{get_or-replicate}
 use Rattle.std.specs.Prelude as P
 use Rattle.std.specs.Option.{option_or}
-use Rattle.std.specs.Prelude.{OkIff, Result}
 use Rattle.std.specs.Result.{result_ok}
 use Rattle.rules.specs.Basics.{any, concat_map, empty, first_some, given, or_else, to_list}
 use Rattle.rules.specs.Constants.{max_members}

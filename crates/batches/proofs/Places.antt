@@ -1,7 +1,6 @@
 -- The place of a number, where there is one.
-use Rattle.std.specs.Prelude.{◌≡◌, ℕ, ◌≤◌, ◌<◌, OkIff, Result, Ok, Err, None, Some}
+use Rattle.std.proofs.Common.{◌≡◌, ℕ, ◌≤◌, ◌<◌, OkIff, Result, Ok, Err, None, Some, arith}
 use Rattle.std.specs.Result.{result_ok}
-use native.Mathlib.Omega.{arith}
 use Rattle.rules.specs.Constants.{max_members}
 use Rattle.rules.specs.declared.Place.{Place}
 use Rattle.rules.specs.declared.NoPlace.{NoPlace}

@@ -2,7 +2,6 @@
 use Rattle.std.specs.Prelude.{ℕ, ◌≡◌, Bool, true, false, not, ◌||◌}
 use mathlib.Core.List.{List, [], ◌∷◌, ◌++◌, foldl}
 use Rattle.std.specs.Prelude as P
-use Rattle.std.proofs.Math.Option.{Option}
 use Rattle.rules.specs.Basics.{empty, given, or_else}
 use Rattle.rules.specs.Records.{Record, parts_of, placed}
 use Rattle.rules.specs.Ledger.{gone}

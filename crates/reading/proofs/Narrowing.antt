@@ -1,13 +1,7 @@
 -- The readers for numbers of 32 bits are those of the rules, where what is read fits. A set of slots has no number that does not.
-use Rattle.std.specs.Prelude.{if◌then◌else◌}
-use mathlib.Core.Path.{◌≡◌, refl, sym, ap, ◌∙◌}
-use mathlib.Core.Bool.{Bool, true, false, ◌&&◌, and-false}
-use mathlib.Core.List.{List, [], ◌∷◌}
+use Rattle.std.proofs.Common.{if◌then◌else◌, ◌≡◌, refl, sym, ap, ◌∙◌, Bool, true, false, ◌&&◌, List, [], ◌∷◌, ℕ, zero, suc, ◌+◌, ◌≤◌, ◌<◌, arith, eqb, ltb, leb, le-ltb, ltb-true, ltb-false, leb-true, ne_eqb}
+use mathlib.Core.Bool.{and-false}
 use mathlib.Core.Option.{Option, none, some}
-use Prim.Native.Nat.{ℕ, zero, suc, ◌+◌, ◌≤◌, ◌<◌}
-use native.Mathlib.Omega.{arith}
-use lib.Dec.{eqb, ltb, leb}
-use borrow.Author.Tests.{le-ltb, ltb-true, ltb-false, leb-true, ne_eqb}
 use Rattle.rules.specs.Basics.{rising, all}
 use Rattle.rules.specs.Constants.{id_length, slot_count, number_range}
 use Rattle.rules.specs.Refusals.{is_slot_set}

@@ -1,12 +1,6 @@
 -- Reading field by field: what is read at a place, and what then at the place after it.
-use Rattle.std.specs.Prelude.{if◌then◌else◌}
-use mathlib.Core.Path.{◌≡◌, refl, sym, ap, ◌∙◌}
-use mathlib.Core.Bool.{Bool, true, false}
-use mathlib.Core.List.{List}
+use Rattle.std.proofs.Common.{if◌then◌else◌, ◌≡◌, refl, sym, ap, ◌∙◌, Bool, true, false, List, ℕ, leb, length, drop}
 use mathlib.Core.Option.{Option, none, some}
-use Prim.Native.Nat.{ℕ}
-use lib.Dec.{leb}
-use lib.ListN.{length, drop}
 use Rattle.rules.specs.Reader.{Reader, and_then, pure, ◌>>=◌}
 
 module _ {A B : Type 0} (m : Reader A) (f : A → Reader B) where

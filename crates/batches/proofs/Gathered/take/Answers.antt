@@ -1,6 +1,5 @@
 -- What the arm of a kind adds is what its record says.
-use mathlib.Core.Path.{refl, sym}
-use native.Mathlib.Omega.{arith}
+use Rattle.std.proofs.Common.{refl, sym, arith}
 use Rattle.rules.specs.Records.{parts_of, placed, places_of}
 use Rattle.rules.specs.Batches.{laid_over}
 use Rattle.batches.proofs.More.{adds_current_gone, adds_target, marks_none, marks_some, taken, there}

@@ -1,6 +1,5 @@
 -- Before the entry none is p.
-use Rattle.std.specs.Prelude.{if◌then◌else◌}
-use lib.Dec.{eqb}
+use Rattle.std.proofs.Common.{if◌then◌else◌, eqb}
 use Rattle.rules.specs.Constants.{no_place}
 use Rattle.slots.proofs.Each.{Each}
 use Rattle.batches.proofs.laying.clear.Given as goal

@@ -1,6 +1,5 @@
 -- An epoch of 0 is of a member that is gone.
-use native.Mathlib.Omega.{arith}
-use Rattle.std.proofs.Common.{◌∙◌}
+use Rattle.std.proofs.Common.{arith, ◌∙◌}
 use Rattle.rules.specs.Reader.{◌>>=◌, and_then, pure}
 use Rattle.reading.proofs.fields.Cursor.current.Goals as goal
 

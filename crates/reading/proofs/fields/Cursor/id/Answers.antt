@@ -1,6 +1,5 @@
 -- Sixteen bytes are there.
-use native.Mathlib.Omega.{arith}
-use Rattle.std.proofs.Common.{refl, length}
+use Rattle.std.proofs.Common.{arith, refl, length}
 use Rattle.std.proofs.lemmas.Slice.{between_to_end}
 use Rattle.rules.specs.Constants.{id_length}
 use Rattle.reading.proofs.Bytes.{bytes_here}

@@ -1,7 +1,5 @@
 -- The byte after the place tells which it is: 0, 1, or no record.
-use native.Mathlib.Omega.{arith}
-use borrow.Author.Tests.{ne_eqb}
-use Rattle.std.proofs.Common.{◌∙◌}
+use Rattle.std.proofs.Common.{arith, ne_eqb, ◌∙◌}
 use Rattle.rules.specs.Reader.{◌>>=◌, and_then, pure, refuse}
 use Rattle.reading.proofs.fields.Cursor.member.Goals as goal
 

@@ -1,6 +1,5 @@
 -- A byte that is no kind.
-use native.Mathlib.Omega.{arith}
-use borrow.Author.Tests.{ne_eqb}
+use Rattle.std.proofs.Common.{arith, ne_eqb}
 use Rattle.rules.specs.Reader.{◌>>=◌, and_then, refuse}
 use Rattle.reading.proofs.fields.Cursor.record.Goals as goal
 

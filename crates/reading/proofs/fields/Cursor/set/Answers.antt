@@ -1,6 +1,5 @@
 -- One slot more.
-use native.Mathlib.Omega.{arith}
-use Rattle.std.proofs.Common.{◌∙◌}
+use Rattle.std.proofs.Common.{arith, ◌∙◌}
 use Rattle.reading.proofs.Rising.{rising_more}
 use Rattle.reading.proofs.fields.Cursor.set.Goals as goal
 
