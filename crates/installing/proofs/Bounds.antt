@@ -1,15 +1,7 @@
 -- How many bytes the records of an install take at most: no slot is in the sets of two places, so that all sets together have no more slots than there are.
 use Rattle.std.specs.Prelude.{if◌then◌else◌}
-use Prim.Native.Nat.{ℕ, zero, suc, ◌+◌, ◌-◌, ◌*◌, ◌^◌, ◌≤◌, ◌<◌}
-use native.Mathlib.Nat.{zero-add}
-use native.Mathlib.Omega.{arith}
+use Rattle.std.proofs.Common.{ℕ, zero, suc, ◌+◌, ◌-◌, ◌*◌, ◌^◌, ◌≤◌, ◌<◌, zero-add, arith, ◌≡◌, refl, sym, ◌∙◌, Bool, true, false, List, [], ◌∷◌, eqb, length, get_or, length-append, ne_eqb}
 use native.Mathlib.Decide.{ℕ_discrete}
-use mathlib.Core.Path.{◌≡◌, refl, sym, ◌∙◌}
-use mathlib.Core.Bool.{Bool, true, false}
-use mathlib.Core.List.{List, [], ◌∷◌}
-use lib.Dec.{eqb}
-use lib.ListN.{length, get_or, length-append}
-use borrow.Author.Tests.{ne_eqb}
 use Rattle.rules.specs.Basics.{concat_map, indices, keep, up_to}
 use Rattle.rules.specs.Constants.{max_members, slot_count}
 use Rattle.rules.specs.Group.{targeted, set_m}

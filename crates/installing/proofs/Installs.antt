@@ -1,15 +1,6 @@
 -- What an install comes to: its records, the rows of its table in their order, and its effect carried out. A step whose earlier rows do
 -- not apply is refused by the next (`install_stale`, ..), and is carried out where none applies (`install_step`).
-use Prim.Native.Nat.{ℕ, zero, suc, ◌+◌, ◌≤◌, ◌<◌}
-use native.Mathlib.Omega.{arith}
-use mathlib.Core.Path.{◌≡◌, refl, sym, ap, ◌∙◌}
-use mathlib.Core.Bool.{Bool, true, false, not}
-use mathlib.Core.List.{List, [], ◌∷◌, ◌++◌, append-nil}
-use lib.IntN.{ℤ}
-use lib.Dec.{eqb}
-use lib.ListN.{length, get_or, take, drop}
-use lib.Seq.{take_at}
-use borrow.Author.Tests.{lt-ltb, le-ltb}
+use Rattle.std.proofs.Common.{ℕ, zero, suc, ◌+◌, ◌≤◌, ◌<◌, arith, ◌≡◌, refl, sym, ap, ◌∙◌, Bool, true, false, not, List, [], ◌∷◌, ◌++◌, append-nil, ℤ, eqb, length, get_or, take, drop, take_at, lt-ltb, le-ltb}
 use Rattle.rules.specs.Basics.{concat_map, same, up_to}
 use Rattle.rules.specs.Constants.{max_members, slot_count, no_slot}
 use Rattle.rules.specs.Group as G

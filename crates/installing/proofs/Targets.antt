@@ -1,16 +1,9 @@
 -- The set of a place in a target: it is picked slot by slot (`set_is`), and who holds a slot is no matter (`viewed`). Two targets give a
 -- place the same set where they have it at the same slots (`same_sets`), and only there (`other_sets`). Then the pass that marks the places whose sets differ.
 use Rattle.std.specs.Prelude.{if◌then◌else◌}
-use Prim.Native.Nat.{ℕ, suc, ◌+◌, ◌<◌}
-use native.Mathlib.Nat.{suc_inj, zero-add}
-use native.Mathlib.Omega.{arith}
-use mathlib.Core.Path.{◌≡◌, refl, sym, ap, ◌∙◌}
-use mathlib.Core.Bool.{Bool, true, false, not, ◌||◌, true≢false}
-use mathlib.Core.List.{List, [], ◌∷◌}
-use lib.Dec.{eqb}
-use lib.ListN.{length, get_or, length-map, get_or-map}
-use borrow.Author.Count.{below_more}
-use borrow.Author.Tests.{eq-eqb, eqb-true}
+use Rattle.std.proofs.Common.{ℕ, suc, ◌+◌, ◌<◌, zero-add, arith, ◌≡◌, refl, sym, ap, ◌∙◌, Bool, true, false, not, ◌||◌, true≢false, List, [], ◌∷◌, eqb, length, get_or, below_more, eq-eqb, eqb-true}
+use native.Mathlib.Nat.{suc_inj}
+use lib.ListN.{length-map, get_or-map}
 use Rattle.rules.specs.Basics.{any, indices, same}
 use Rattle.rules.specs.Constants.{max_members, slot_count, no_place}
 use Rattle.rules.specs.Group.{SlotState, free_slot, targeted, set_m}

@@ -31,6 +31,14 @@ struct Links<'a> {
     ghost linked: { Linked target.now firsts counts nexts.now },
 }
 
+// An install: the places whose sets of slots it changes are marked, and the slots of its target linked.
+#[derive(Clone, Copy)]
+struct Install<'a> {
+    marks: [bool; MEMBERS],
+    links: Links<'a>,
+    epoch: u32,
+}
+
 // Marks the place of a target's entry; an entry that is no place marks nothing.
 fn mark(marks: &mut [bool; MEMBERS], entry: u8)
     ensures { (p : ℕ) → p < max_members → get_or marks.new p false ≡ (get_or marks.old p false || eqb p entry) }
@@ -105,42 +113,39 @@ impl<'a> Links<'a> {
         let at = records::kinds::put_target_front(buf, p, count as u32);
         at + self.put_differences(&mut buf[at..], p)
     }
+}
 
+impl<'a> Install<'a> {
     // Record 7 for each place that is marked, rising.
-    fn put_targets(&self, buf: &mut [u8], marks: &[bool; MEMBERS]) -> usize
-        requires { length (all_bytes (marked_records marks.now self.now.target.now)) ≤ length buf.old }
-        ensures { Wrote (all_bytes (marked_records marks.now self.now.target.now)) buf.old buf.new result }
+    fn put_targets(&self, buf: &mut [u8]) -> usize
+        requires { length (all_bytes (marked_records self.now.marks self.now.links.target.now)) ≤ length buf.old }
+        ensures { Wrote (all_bytes (marked_records self.now.marks self.now.links.target.now)) buf.old buf.new result }
     {
         let mut at = 0;
-        for (i, mark) in marks.iter().enumerate() {
+        for (i, mark) in self.marks.iter().enumerate() {
             if *mark {
-                at += self.put_target(&mut buf[at..], Place(i as u8));
+                at += self.links.put_target(&mut buf[at..], Place(i as u8));
             }
         }
         at
     }
 
-    // Writes the records of an install to the start of the buffer, and leaves the rest of it alone. Returns how many bytes they take.
-    fn put_install(&self, buf: &mut [u8], marks: &[bool; MEMBERS], epoch: u32) -> usize
-        requires { length (all_bytes (marked_install marks.now self.now.target.now epoch)) ≤ length buf.old }
-        ensures { Wrote (all_bytes (marked_install marks.now self.now.target.now epoch)) buf.old buf.new result }
+    // Writes the records to the start of the buffer, and leaves the rest of it alone. Returns how many bytes they take.
+    fn put_install(&self, buf: &mut [u8]) -> usize
+        requires { length (all_bytes (marked_install self.now.marks self.now.links.target.now self.now.epoch)) ≤ length buf.old }
+        ensures { Wrote (all_bytes (marked_install self.now.marks self.now.links.target.now self.now.epoch)) buf.old buf.new result }
     {
-        let at = self.put_targets(buf, marks);
-        records::put_at(buf, at, TargetEpoch(epoch))
+        let at = self.put_targets(buf);
+        records::put_at(buf, at, TargetEpoch(self.epoch))
     }
 
     // Stores the records in a buffer that may be too short: they are written elsewhere first.
-    fn store_tight(
-        &self,
-        buf: &mut [u8],
-        marks: &[bool; MEMBERS],
-        epoch: u32,
-    ) -> Result<usize, Refusal>
-        requires { length (all_bytes (marked_install marks.now self.now.target.now epoch)) ≤ install_most }
-        ensures { Stores (all_bytes (marked_install marks.now self.now.target.now epoch)) buf.old buf.new result }
+    fn store_tight(&self, buf: &mut [u8]) -> Result<usize, Refusal>
+        requires { length (all_bytes (marked_install self.now.marks self.now.links.target.now self.now.epoch)) ≤ install_most }
+        ensures { Stores (all_bytes (marked_install self.now.marks self.now.links.target.now self.now.epoch)) buf.old buf.new result }
     {
         let mut elsewhere = [0u8; MOST];
-        let size = self.put_install(&mut elsewhere, marks, epoch);
+        let size = self.put_install(&mut elsewhere);
         if buf.len() < size {
             return Err(Refusal::Room);
         }
@@ -160,8 +165,13 @@ pub fn store_install(
     let marks = changed_places(&tables.target, target);
     let mut nexts = [SLOT_END; SLOTS];
     let links = Links::of(target, &mut nexts);
+    let install = Install {
+        marks,
+        links,
+        epoch,
+    };
     if buf.len() < MOST {
-        return links.store_tight(buf, &marks, epoch);
+        return install.store_tight(buf);
     }
-    Ok(links.put_install(buf, &marks, epoch))
+    Ok(install.put_install(buf))
 }

@@ -1,6 +1,5 @@
 -- Each `return` is a row of the table: the tests that led there say that the rows before it do not apply. The last is the effect.
-use Rattle.std.proofs.Common.{◌≡◌, ℕ, ℤ, List, sym, ap, ◌∙◌, eq-eqb, ne_eqb, arith}
-use mir.Facts.{to_z-of_z}
+use Rattle.std.proofs.Common.{◌≡◌, ℕ, ℤ, List, sym, ap, ◌∙◌, eq-eqb, ne_eqb, arith, to_z-of_z}
 use Rattle.rules.specs.Refusals.{is_epoch}
 use Rattle.rules.specs.Effects.{install_effect}
 use Rattle.group.specs.View.{view}

@@ -2,7 +2,7 @@
 use Rattle.std.proofs.Common.{List, ℕ, subst, arith}
 use Rattle.numbers.specs.Buffer.{Wrote}
 use Rattle.installing.proofs.Installs.{wrote_part}
-use Rattle.installing.proofs.retargeting.Links.store_tight.Goals as goal
+use Rattle.installing.proofs.retargeting.Install.store_tight.Goals as goal
 
 pub returns : goal.returns
 returns c =

@@ -4,8 +4,8 @@ use Rattle.rules.specs.Records.{all_bytes}
 use Rattle.numbers.proofs.Writing.{Writing}
 use Rattle.installing.specs.Targets.{record_at, marked_records}
 use Rattle.events.proofs.Places.{places_from, bytes_at}
-use Rattle.installing.proofs.retargeting.Links.put_targets.Given as goal
+use Rattle.installing.proofs.retargeting.Install.put_targets.Given as goal
 
 abbrev pub invariant-loop-i : goal.invariant-loop-i
 invariant-loop-i l =
-    Writing (all_bytes (marked_records l.marks l.self.target.now)) l.initial.buf l.buf l.at (bytes_at (record_at l.marks l.self.target.now) (places_from l.i) ∷ [])
+    Writing (all_bytes (marked_records l.self.marks l.self.links.target.now)) l.initial.buf l.buf l.at (bytes_at (record_at l.self.marks l.self.links.target.now) (places_from l.i) ∷ [])

@@ -4,12 +4,12 @@ use Rattle.rules.specs.Records.{all_bytes}
 use Rattle.numbers.proofs.Writing.{Writing, begin, first, next_at, room_at, room₀, ended}
 use Rattle.installing.specs.Targets.{marked_install}
 use Rattle.installing.proofs.Installs.{install_parts, install_parts_lem}
-use Rattle.installing.proofs.retargeting.Links.put_install.Goals.{Start}
-use Rattle.installing.proofs.retargeting.Links.put_install.Goals as goal
+use Rattle.installing.proofs.retargeting.Install.put_install.Goals.{Start}
+use Rattle.installing.proofs.retargeting.Install.put_install.Goals as goal
 
-s₀ : (c : Start) → let a = c.args in let target = a.self.now.target.now in
-    Writing (all_bytes (marked_install a.marks.now target a.epoch)) a.buf.now a.buf.now 0 (install_parts a.marks.now target a.epoch)
-s₀ c = let a = c.args in begin _ _ _ (sym (install_parts_lem a.marks.now a.self.now.target.now a.epoch)) c.requires
+s₀ : (c : Start) → let a = c.args in let target = a.self.now.links.target.now in
+    Writing (all_bytes (marked_install a.self.now.marks target a.self.now.epoch)) a.buf.now a.buf.now 0 (install_parts a.self.now.marks target a.self.now.epoch)
+s₀ c = let a = c.args in begin _ _ _ (sym (install_parts_lem a.self.now.marks a.self.now.links.target.now a.self.now.epoch)) c.requires
 
 pub put_targets-at-requires : goal.put_targets-at-requires
 put_targets-at-requires c = room₀ (s₀ (goal.at.put_targets-at-requires c).Start)
