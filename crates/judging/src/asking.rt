@@ -10,8 +10,8 @@ ghost use Rattle.judging.specs.Asks.{Asks, AsksFor, Gives, beating_as, metadata_
 
 use batches::Gathered;
 use events::Request;
-use group::members::Members;
 use group::Seat;
+use group::members::Members;
 use reading::Member;
 use rules::{MEMBERS, Place};
 

@@ -10,6 +10,8 @@ use group::Group;
 use rules::{BATCH_LIMIT, MEMBERS, NO_PLACE, SLOTS};
 
 // Runs the first that the records can be of. Nothing is run if the records are of none, or if its numbers do not fit: such an event was never accepted.
+// As it is: tried with `said`, `gone` and `entries` as one struct, and the proof didn't close: lent, it tells no length of the ID in a record 4, and by value
+// its parts are of two moments.
 pub fn run_candidate(
     group: &mut Group,
     said: Gathered,

@@ -1,5 +1,5 @@
 -- At each `return` a number doesn't fit, or all do.
-use Rattle.std.proofs.Common.{rules, length, ◌≡◌, ◌<◌, ◌≤◌, ◌∙◌, arith, to_z-of_z, w32, SFits}
+use Rattle.std.proofs.Common.{rules, length, ◌≡◌, ◌<◌, ◌∙◌, to_z-of_z, w32, SFits}
 use Rattle.judging.proofs.Beating.{all_fit, beats, cast_none, cast_some, is_signed_lem, is_wide, no_epoch, no_subscription, no_timeout, not_signed}
 use Rattle.judging.proofs.asking.Beat.request.Goals as goal
 
