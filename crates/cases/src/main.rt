@@ -15,14 +15,77 @@ use std::{fmt, io};
 
 const COLUMNS: usize = 7;
 
-#[derive(Clone, Copy)]
-struct Row {
-    event: u8,
-    column: usize,
-    numbers: [u32; 7],
-    has_name: bool,
+// What a row asks for.
+#[derive(Clone, Copy, PartialEq, Eq)]
+enum Event {
+    Fresh,
+    Topic,
+    Sweep,
+    Install,
+    Join,
+    // a heartbeat with a list, and one without
+    List,
+    Beat,
 }
 
+impl Event {
+    // The event that begins with a letter; any other letter is of a heartbeat with a list.
+    fn of(letter: u8) -> Event {
+        match letter {
+            b'f' => Event::Fresh,
+            b't' => Event::Topic,
+            b's' => Event::Sweep,
+            b'i' => Event::Install,
+            b'j' => Event::Join,
+            b'b' => Event::Beat,
+            _ => Event::List,
+        }
+    }
+}
+
+// A column's number: its digits, of which a space is a 0.
+fn number(column: &[u8]) -> u32 {
+    let mut n: u32 = 0;
+    for digit in column {
+        n = n.wrapping_mul(10).wrapping_add((*digit % 16) as u32);
+    }
+    n
+}
+
+// A row's event, its columns as numbers, and its name, if it has one.
+#[derive(Clone, Copy)]
+struct Row<'a> {
+    event: Event,
+    numbers: [u32; COLUMNS],
+    name: Option<&'a [u8]>,
+}
+
+impl<'a> Row<'a> {
+    fn read(text: &'a [u8]) -> Row<'a> {
+        let mut parts = text.splitn(COLUMNS + 1, |b| *b == b'|');
+        let mut letter: Option<u8> = None;
+        let mut numbers = [0; COLUMNS];
+        for n in &mut numbers {
+            let column = parts.next().unwrap_or(&[]);
+            letter = letter.or(column.iter().find(|b| **b != 0).copied());
+            *n = number(column);
+        }
+        Row {
+            event: Event::of(letter.unwrap_or(0)),
+            numbers,
+            name: parts.next().filter(|name| !name.is_empty()),
+        }
+    }
+
+    fn write_name<W: Write>(&self, out: &mut W) -> io::Result<()> {
+        match self.name {
+            Some(name) => out.write_all(name),
+            None => Ok(()),
+        }
+    }
+}
+
+// As it is: tried as a plain cast in `fmt`, and the proof didn't close, since no range is known there of a number that an answer holds.
 fn wide(n: u32) -> usize {
     n as usize
 }
@@ -64,42 +127,6 @@ impl<'a> fmt::Display for Shown<'a> {
     }
 }
 
-fn empty_row() -> Row {
-    Row {
-        event: 0,
-        column: 0,
-        numbers: [0; 7],
-        has_name: false,
-    }
-}
-
-// The number with one more digit; a space is a 0.
-fn longer(n: u32, digit: u8) -> u32 {
-    ((n as u64 * 10 + (digit % 16) as u64) % 4294967296) as u32
-}
-
-// The row with the next byte of its text. A name is written as it comes.
-fn read<W: Write>(out: &mut W, r: Row, b: u8) -> io::Result<Row> {
-    let mut row = r;
-    let k = row.column;
-    if k == COLUMNS {
-        out.write_all(&[b])?;
-        row.has_name = true;
-        return Ok(row);
-    }
-    if b == b'|' {
-        row.column = k % COLUMNS + 1;
-        return Ok(row);
-    }
-    if row.event == 0 {
-        row.event = b;
-    }
-    if k < COLUMNS {
-        row.numbers[k] = longer(row.numbers[k], b);
-    }
-    Ok(row)
-}
-
 fn id(n: u32) -> [u8; 16] {
     [(n % 256) as u8; 16]
 }
@@ -110,31 +137,18 @@ fn signed(n: u32) -> i32 {
 
 // A timeout that is not given is 0 in the table.
 fn timeout(n: u32) -> i32 {
-    if n == 0 {
-        return -1;
-    }
-    signed(n)
-}
-
-fn request(row: Row) -> Request {
-    let n = row.numbers;
-    Request {
-        id: id(n[1]),
-        epoch: signed(n[2]),
-        tick: n[3],
-        timeout: timeout(n[4]),
-        has_subscription: row.event == b'j',
-        subscription: 1,
-        has_list: row.event != b'b',
+    match n {
+        0 => -1,
+        _ => signed(n),
     }
 }
 
 // The place that the last digit says.
 fn place(n: u32) -> u8 {
-    if n % 10 == 9 {
-        return NO_PLACE;
+    match n % 10 {
+        9 => NO_PLACE,
+        p => p as u8,
     }
-    (n % 10) as u8
 }
 
 // For slots 0, 1 and 2 the places that the three digits say.
@@ -146,41 +160,56 @@ fn entries(n: u32) -> [u8; SLOTS] {
     entries
 }
 
-// A heartbeat lists the first N of the slots 0, 1 and 2.
-fn serve(group: &mut Group, row: Row, records: &mut [u8], list: &mut [u16]) -> Outcome {
+fn request(row: &Row<'_>) -> Request {
     let n = row.numbers;
-    let held = [0u16, 1, 2];
-    let owned = &held[..n[5] as usize % 4];
-    match row.event {
-        b't' => coordinator::topic(group, 0, id(n[1]), n[5], records),
-        b's' => coordinator::sweep(group, n[3], records),
-        b'i' => coordinator::install(group, signed(n[2]), &entries(n[5]), records),
-        _ => coordinator::heartbeat(group, request(row), owned, records, list),
+    Request {
+        id: id(n[1]),
+        epoch: signed(n[2]),
+        tick: n[3],
+        timeout: timeout(n[4]),
+        has_subscription: row.event == Event::Join,
+        subscription: 1,
+        has_list: row.event != Event::Beat,
     }
 }
 
-fn run<W: Write>(
-    out: &mut W,
-    group: &mut Group,
-    row: Row,
-    records: &mut [u8],
-    list: &mut [u16],
-) -> io::Result<()> {
+// Runs a row on the group; a heartbeat lists the first N of the slots 0, 1 and 2. A fresh group has no outcome, and an event that is lent more than there
+// is isn't run.
+fn serve(group: &mut Group, row: &Row<'_>, buffer: &mut [u8], list: &mut [u16]) -> Option<Outcome> {
     let n = row.numbers;
-    if row.event == b'f' {
-        *group = coordinator::fresh(n[3]);
-        return Ok(());
+    let held = [0u16, 1, 2];
+    let owned = &held[..n[5] as usize % 4];
+    let records = buffer.get_mut(..n[6] as usize);
+    match row.event {
+        Event::Fresh => {
+            *group = coordinator::fresh(n[3]);
+            None
+        }
+        Event::Topic => Some(coordinator::topic(group, 0, id(n[1]), n[5], records?)),
+        Event::Sweep => Some(coordinator::sweep(group, n[3], records?)),
+        Event::Install => {
+            let entries = entries(n[5]);
+            Some(coordinator::install(group, signed(n[2]), &entries, records?))
+        }
+        Event::Join | Event::List | Event::Beat => {
+            let request = request(row);
+            Some(coordinator::heartbeat(group, request, owned, records?, list))
+        }
     }
-    let room = n[6] as usize;
-    if records.len() < room {
+}
+
+// Runs a row, and writes what follows its name.
+fn run<W: Write>(out: &mut W, group: &mut Group, row: &Row<'_>) -> io::Result<()> {
+    let mut records = [0u8; 64];
+    let mut list = [0u16; 8];
+    let Some(outcome) = serve(group, row, &mut records, &mut list) else {
         return Ok(());
-    }
-    let outcome = serve(group, row, &mut records[..room], list);
-    if row.has_name {
+    };
+    if row.name.is_some() {
         let shown = Shown {
-            outcome: outcome,
-            list: list,
-            records: records,
+            outcome,
+            list: &list,
+            records: &records,
             head: group.head,
         };
         writeln!(out, ": {shown}")?;
@@ -188,16 +217,15 @@ fn run<W: Write>(
     Ok(())
 }
 
-// What follows the last row is no row.
+// What follows the last row is no row, but its name is written.
 fn run_table<W: Write>(out: &mut W, table: &[u8]) -> io::Result<()> {
     let mut group = coordinator::fresh(0);
-    let mut row = empty_row();
-    for b in table {
-        if *b == b'\n' {
-            run(out, &mut group, row, &mut [0u8; 64], &mut [0u16; 8])?;
-            row = empty_row();
-        } else {
-            row = read(out, row, *b)?;
+    for line in table.split_inclusive(|b| *b == b'\n') {
+        let whole = line.strip_suffix(b"\n");
+        let row = Row::read(whole.unwrap_or(line));
+        row.write_name(out)?;
+        if whole.is_some() {
+            run(out, &mut group, &row)?;
         }
     }
     Ok(())

@@ -1,7 +1,7 @@
 -- A run of the code is a run of the rules: the contracts say so of each exchange, so the course of the one stands for that of the other, and demand 3 of the
 -- rules is demand 3 of the code.
-use mathlib.Core.Path.{◌≡◌, refl, sym, ap, ◌∙◌, subst}
-use mathlib.Core.List.{List, [], ◌∷◌, ◌++◌, map-append}
+use Rattle.std.proofs.Common.{◌≡◌, refl, sym, ap, ◌∙◌, subst, List, [], ◌∷◌, ◌++◌}
+use Rattle.std.proofs.lemmas.List.{map-append}
 use Rattle.rules.specs.Course as R
 use Rattle.rules.specs.Course.{Call, HeldByOne, SingleHolder, observe, seen_of, stepped}
 use Rattle.rules.specs.Rounds.{ThreeRounds}

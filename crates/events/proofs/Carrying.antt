@@ -1,10 +1,5 @@
 -- What every event's code comes to at its end: a refusal changes nothing, and an effect that no row refuses is carried out if there is room.
-use Prim.Native.Nat.{ℕ, ◌≤◌, ◌<◌}
-use native.Mathlib.Omega.{arith}
-use mathlib.Core.Path.{◌≡◌, refl, sym, subst}
-use mathlib.Core.List.{List, []}
-use lib.ListN.{length}
-use borrow.Author.Tests.{le-ltb, lt-ltb}
+use Rattle.std.proofs.Common.{ℕ, ◌≤◌, ◌<◌, arith, ◌≡◌, refl, sym, subst, List, [], length, le-ltb, lt-ltb}
 use Rattle.rules.specs.Group.{Group}
 use Rattle.rules.specs.Records.{all_bytes}
 use Rattle.rules.specs.Event.{Request, heartbeat}

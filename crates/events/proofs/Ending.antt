@@ -1,10 +1,8 @@
 -- The end of an event that hands a refusal on by `?`, or stores its records by `store`: they have no room, or they are written and the effect is carried out.
-use Prim.Native.Nat.{ℕ}
 use Rattle.std.specs.Prelude.{◌<◌, length}
-use mathlib.Core.Path.{◌≡◌, sym, ap, ◌∙◌, subst}
-use mathlib.Core.List.{List, []}
 use Rattle.std.specs.Prelude.{Result, Ok, Err}
 use Rattle.std.specs.Result.{IsErrAnd}
+use Rattle.std.proofs.Common.{ℕ, ◌≡◌, sym, ap, ◌∙◌, subst, List, []}
 use Rattle.rules.specs.Records.{Record, all_bytes}
 use Rattle.rules.specs.Effects.{Effect}
 use Rattle.rules.specs.Step.{Stepped}

@@ -1,10 +1,7 @@
 -- The group after an event, by what was written of it; and what the code's tests on it say of the group of the rules.
-use Prim.Native.Nat.{ℕ}
-use mathlib.Core.Path.{◌≡◌, refl}
-use mathlib.Core.List.{List}
-use mathlib.Core.Option.{Option}
-use lib.Dec.{leb}
 use Rattle.std.specs.Prelude as P
+use Rattle.std.proofs.Common.{ℕ, ◌≡◌, refl, List, leb}
+use Rattle.std.proofs.Math.Option.{Option}
 use Rattle.rules.specs.Basics.{any, find}
 use Rattle.rules.specs.Constants.{clock_limit}
 use Rattle.rules.specs.Group as G

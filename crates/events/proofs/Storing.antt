@@ -1,9 +1,6 @@
 -- The end of an event that tells no slots: the code has worked out the records rs, which are those of the effect f. They are written, and the outcome is the
 -- effect's.
-use Prim.Native.Nat.{ℕ, ◌≤◌}
-use mathlib.Core.Path.{◌≡◌, ◌∙◌, subst}
-use mathlib.Core.List.{List, []}
-use lib.ListN.{length}
+use Rattle.std.proofs.Common.{ℕ, ◌≤◌, ◌≡◌, ◌∙◌, subst, List, [], length}
 use Rattle.rules.specs.Group.{Group}
 use Rattle.rules.specs.Records.{Record, all_bytes}
 use Rattle.rules.specs.Effects.{Effect}

@@ -3,7 +3,7 @@
 use Rattle.std.specs.Prelude.{None, Some, if◌then◌else◌, is_some}
 use Rattle.std.specs.Prelude as P
 use Rattle.std.proofs.Common.{◌≡◌, ℕ, suc, ne_eqb, Bool, true, false, not, ◌&&◌, ◌||◌, List, [], ◌∷◌, map, length, get_or, set, refl, sym, ap, ◌∙◌, arith}
-use mathlib.Core.Option.{none, some}
+use Rattle.std.proofs.Math.Option.{none, some}
 use Rattle.rules.specs.Basics.{any, find, default, given, empty}
 use Rattle.rules.specs.Constants.{heartbeat_interval}
 use Rattle.rules.specs.Group as G

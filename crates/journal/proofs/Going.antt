@@ -1,11 +1,10 @@
 -- From batch to batch: one turn of the rules' reading, with the fuel that is left put aside.
-use Rattle.std.proofs.Common.{ℕ, suc, ◌+◌, ◌-◌, ◌≤◌, ◌<◌, ◌≡◌, refl, sym, ap, ◌∙◌, subst, Bool, true, false, not, List, length, take, drop, Result, Ok, Err}
-use native.Mathlib.Omega.{arith}
-use mathlib.Core.Option.{none, some}
-use lib.ListN.{length-drop}
+use Rattle.std.proofs.Common.{ℕ, suc, ◌+◌, ◌-◌, ◌≤◌, ◌<◌, ◌≡◌, refl, sym, ap, ◌∙◌, subst, Bool, true, false, not, List, length, take, drop, Result, Ok, Err, arith, length-drop}
+use Rattle.std.proofs.Math.Option.{none, some}
 use Rattle.rules.specs.Constants.{batch_limit}
 use Rattle.rules.specs.Group.{Group, fresh}
 use Rattle.rules.specs.Batches.{read_batch}
+use Rattle.rules.proofs.Lists.{not_is_false, not_is_true}
 use Rattle.rules.specs.Journal.{Reading, after_batch, heading, read_batches, read_heading, read_journal, refused_at}
 use Rattle.recovery.proofs.Lengths.{fuel_any}
 use Rattle.frames.specs.Forms.{ExtentAt, Extends, damage_of, extended, headed}
@@ -54,20 +53,12 @@ module _ {s : List ℕ} {at t : ℕ} {r : Result (ℕ × ℕ) NoBatch} {first en
   pub batch_bad : not good ≡ true → from t at (view g) s ≡ record { group = view h; verdict = refused_at at }
   unfolding good_as
   batch_bad q =
-      let bad : good ≡ false = false_is good q in
+      let bad = not_is_true good q in
       refuses a t (view g) e (sym p.reads ∙ rw bad) ∙ ap (λ (x : Code.Group). record { group = view x; verdict = refused_at at }) (sym (p.keeps bad))
-    where
-      false_is : (b : Bool) → not b ≡ true → b ≡ false
-      false_is true f = sym f
-      false_is false f = refl
 
   pub batch_good : not good ≡ false → from t at (view g) s ≡ from t end (view h) s
   unfolding good_as
-  batch_good q = goes_on a t (view g) e (view h) (sym p.reads ∙ rw (true_is good q))
-    where
-      true_is : (b : Bool) → not b ≡ false → b ≡ true
-      true_is true f = refl
-      true_is false f = sym f
+  batch_good q = goes_on a t (view g) e (view h) (sym p.reads ∙ rw (not_is_false good q))
 
 -- ---- the heading
 

@@ -21,6 +21,8 @@ fn read_batches(group: &mut Group, tick: u32, bytes: &[u8], start: usize) -> Res
     let mut scratch = [0u8; BATCH_LIMIT];
     let mut list = [0u16; SLOTS];
     let mut at = start;
+    // As it is: a `for` over an iterator of batches is no plainer, since its `next` would be this `match` over again, made to end behind a bad batch, and each
+    // batch would have to carry the place that a refusal names.
     loop {
         match frames::read_extent(bytes, at) {
             Ok((first, end)) => {

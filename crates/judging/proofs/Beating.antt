@@ -1,16 +1,10 @@
 -- The heartbeat of a seat's member: whether its numbers fit, and what the request is then.
-use Rattle.std.specs.Prelude.{if◌then◌else◌}
 use Rattle.std.specs.Prelude as P
-use Prim.Native.Nat.{ℕ, ◌%◌, ◌≤◌, ◌<◌}
-use native.Mathlib.Omega.{arith}
-use mathlib.Core.Path.{◌≡◌, refl, sym, ap, ◌∙◌, subst}
-use mathlib.Core.Bool.{Bool, true, false, not, ◌&&◌, ◌||◌, and-false, false≢true, true≢false}
-use mathlib.Core.List.{List, []}
-use mathlib.Core.Option.{Option, none, some}
-use lib.Dec.{eqb, leb, ltb}
-use lib.IntN.{ℤ, pos, negsuc}
-use lib.ListN.{length, get_or}
-use borrow.Author.Tests.{eq-eqb, eqb-true, le-leb, le-ltb, leb-true, lt-leb, lt-ltb, ltb-true, ne_eqb}
+use Rattle.std.specs.Result.{OkIff, result_ok}
+use Rattle.std.proofs.Common.{ℕ, ◌≤◌, ◌<◌, ◌≡◌, refl, sym, ap, ◌∙◌, subst, Bool, true, false, not, ◌&&◌, List, [], eqb, leb, ltb, ℤ, pos, negsuc, length, get_or, lt_of_not-le, if◌then◌else◌, ne_eqb, eqb-true, le-leb, le-ltb, lt-ltb, arith, eq-eqb, w32, SFits}
+use Rattle.std.proofs.Math.Bool.{and-false}
+use Rattle.std.proofs.Math.Option.{Option, none, some}
+use borrow.Author.Tests.{lt-leb}
 use Rattle.rules.specs.Basics.{default}
 use Rattle.rules.specs.Constants.{id_length, last_epoch, subscription_count}
 use Rattle.rules.specs.Group as G
@@ -19,7 +13,6 @@ use Rattle.rules.specs.Records.{MemberMetadata}
 use Rattle.rules.specs.Event as E
 use Rattle.rules.specs.Event.{heartbeat}
 use Rattle.rules.specs.Batches.{beating, is_signed, is_typed, joining}
-use Rattle.rules.proofs.Lists.{and_true}
 use Rattle.theorems.proofs.Cases.{by_cases}
 use Rattle.tables.specs.Advances.{owned_of}
 use Rattle.group.specs.declared.Seat.{Seat}
@@ -27,13 +20,36 @@ use Rattle.group.specs.Columns.{view_members}
 use Rattle.group.specs.View.{seated}
 use Rattle.events.specs.declared.Request as Code
 use Rattle.events.specs.Outcomes.{given_subscription, request_of}
-use Rattle.judging.specs.Asks.{Asks, beating_as, timeout_given}
+use Rattle.judging.specs.Asks.{Asks, Gives, beating_as, timeout_given}
 
 -- ---- numbers that fit
 
-pub is_signed_lem : (n : ℕ) → is_signed (pos n) ≡ true → n ≤ last_epoch
+-- what is left of a cast is the number, if it fits
+module _ {A E : Type 0} where
+  pub cast_some : (r : P.Result A E) (Q : Type 0) {v x : A} → OkIff r Q v → P.Some x ≡ result_ok r → Q × (x ≡ v)
+  cast_some (P.Ok y) Q h e = (h.0, same e ∙ h.1)
+    where
+      same : {x y : A} → P.Some x ≡ P.Some y → x ≡ y
+      same f = cc
+  cast_some (P.Err y) Q h e = absurd cc
+
+  pub cast_none : (r : P.Result A E) (Q : Type 0) (v : A) → OkIff r Q v → P.None ≡ result_ok r → Q → ⊥
+  cast_none (P.Ok y) Q v h e q = cc
+  cast_none (P.Err y) Q v h e q = h q
+
+pub is_signed_lem : (n : ℕ) → SFits w32 (pos n) → is_signed (pos n) ≡ true
 unfolding is_signed
-is_signed_lem n e = leb-true n last_epoch e
+is_signed_lem n f = le-leb n last_epoch (omega (arith, f))
+
+pub is_wide : (n : ℕ) → (n < subscription_count → ⊥) → subscription_count ≤ n
+is_wide n f = omega (arith, lt_of_not-le (λ (h : n ≤ 65535). f (omega (arith, h))))
+
+pub is_large : (n : ℕ) → (SFits w32 (pos n) → ⊥) → last_epoch < n
+is_large n f = lt_of_not-le (λ h. f (omega (arith, h)))
+
+pub not_signed : (n : ℕ) → (SFits w32 (pos n) → ⊥) → is_signed (pos n) ≡ false
+unfolding is_signed
+not_signed n f = lt-leb n last_epoch (is_large n f)
 
 -- a subscription that is new, or the member's own
 new_subscription_lem : (s had : ℕ) → had < subscription_count → ltb (default 0 (if eqb s had then none else some s)) subscription_count ≡ ltb s subscription_count
@@ -43,38 +59,21 @@ new_subscription_lem s had h =
     (λ e. rw e refl)
 
 -- a timeout that is new, or the member's own
-new_timeout_lem : (a had : ℕ) → is_signed (timeout_given a had) ≡ (eqb a had || leb a last_epoch)
-unfolding is_signed timeout_given
-new_timeout_lem a had = by_cases (eqb a had) (λ e. rw e refl) (λ e. rw e refl)
-
 pub own_timeout : (a had : ℕ) → a ≡ had → negsuc 0 ≡ timeout_given a had
 unfolding timeout_given
 own_timeout a had e = rw (eq-eqb a had e)
 
-pub other_timeout_lem : (a had : ℕ) → (a ≡ had → ⊥) → pos a ≡ timeout_given a had
+other_timeout_lem : (a had : ℕ) → (a ≡ had → ⊥) → pos a ≡ timeout_given a had
 unfolding timeout_given
 other_timeout_lem a had n = rw (ne_eqb a had n)
 
-abbrev fit : Member → ℕ → ℕ → Bool
-fit m timeout subscription = ltb subscription subscription_count && (leb m.epoch last_epoch && (eqb timeout m.timeout || leb timeout last_epoch))
+pub gives_own : (a had : ℕ) → a ≡ had → Gives (timeout_given a had) (P.Some (negsuc 0))
+unfolding is_signed
+gives_own a had e = let own = own_timeout a had e in (ap is_signed (sym own), own)
 
-pub no_subscription : (m : Member) (timeout subscription : ℕ) → subscription_count ≤ subscription → false ≡ fit m timeout subscription
-no_subscription m timeout subscription h = rw (le-ltb subscription subscription_count h)
-
-pub no_epoch : (m : Member) (timeout subscription : ℕ) → last_epoch < m.epoch → false ≡ fit m timeout subscription
-no_epoch m timeout subscription h =
-    sym (ap (λ (x : Bool). ltb subscription subscription_count && (x && (eqb timeout m.timeout || leb timeout last_epoch))) (lt-leb m.epoch last_epoch h)
-    ∙ and-false (ltb subscription subscription_count))
-
-module _ (m : Member) (timeout subscription : ℕ) (s : subscription < subscription_count) (e : m.epoch ≤ last_epoch) where
-  by_timeout : (eqb timeout m.timeout || leb timeout last_epoch) ≡ fit m timeout subscription
-  by_timeout = sym (λ i. lt-ltb subscription subscription_count s i && (le-leb m.epoch last_epoch e i && (eqb timeout m.timeout || leb timeout last_epoch)))
-
-  pub its_timeout : timeout ≡ m.timeout → true ≡ fit m timeout subscription
-  its_timeout h = sym (ap (λ (x : Bool). x || leb timeout last_epoch) (eq-eqb timeout m.timeout h)) ∙ by_timeout
-
-  pub a_timeout : (timeout ≡ m.timeout → ⊥) → leb timeout last_epoch ≡ fit m timeout subscription
-  a_timeout n = sym (ap (λ (x : Bool). x || leb timeout last_epoch) (ne_eqb timeout m.timeout n)) ∙ by_timeout
+pub gives_cast : {E : Type 0} (a had : ℕ) → (a ≡ had → ⊥) → (r : P.Result ℤ E) → OkIff r (SFits w32 (pos a)) (pos a) → Gives (timeout_given a had) (result_ok r)
+gives_cast a had n (P.Ok x) h = let other = other_timeout_lem a had n in (ap is_signed (sym other) ∙ is_signed_lem a h.0, h.1 ∙ other)
+gives_cast a had n (P.Err e) h = ap is_signed (sym (other_timeout_lem a had n)) ∙ not_signed a h
 
 module _ (t : ℕ) (timeout subscription : ℕ) (moves : Bool) where
   abbrev beat : Member → E.Event
@@ -84,33 +83,40 @@ module _ (t : ℕ) (timeout subscription : ℕ) (moves : Bool) where
   unfolding is_typed beating_as nobody
   nobody_beats = refl
 
-  member_beats : (m : Member) → length m.id ≡ id_length → m.subscription < subscription_count → is_typed (beat m) ≡ fit m timeout subscription
-  unfolding is_typed beating_as is_signed
-  member_beats m n h =
-      rw (eq-eqb (length m.id) id_length n)
-      (λ i. new_subscription_lem subscription m.subscription h i && (leb m.epoch last_epoch && new_timeout_lem timeout m.timeout i))
-
   module _ (s : Seat) (n : length s.id ≡ id_length) (h : s.subscription < subscription_count) where
-    pub fits : fit (seated s) timeout subscription ≡ is_typed (beat (seated s))
-    fits = sym (member_beats (seated s) n h)
+    abbrev fit : Bool → Bool → Bool → Bool
+    fit subscribed entered timed = subscribed && (entered && timed)
 
-    -- what the request has to have, if it fits
-    pub beats : (epoch given : ℤ) (has : Bool) (own : ℕ)
-        → (is_signed (pos s.epoch) ≡ true → epoch ≡ pos s.epoch) →
-        (is_signed (timeout_given timeout s.timeout) ≡ true → given ≡ timeout_given timeout s.timeout)
-        → has ≡ not (eqb subscription s.subscription) → own ≡ subscription % subscription_count → is_typed (beat (seated s)) ≡ true
-        → request_of (record { id = s.id; epoch = epoch; tick = t; timeout = given; has_subscription = has; subscription = own; has_list = moves }) []
+    typed_as : is_typed (beat (seated s)) ≡ fit (ltb subscription subscription_count) (is_signed (pos s.epoch)) (is_signed (timeout_given timeout s.timeout))
+    unfolding is_typed beating_as
+    typed_as =
+        rw (eq-eqb (length s.id) id_length n)
+        (λ i. fit (new_subscription_lem subscription s.subscription h i) (is_signed (pos s.epoch)) (is_signed (timeout_given timeout s.timeout)))
+
+    pub no_epoch : is_signed (pos s.epoch) ≡ false → is_typed (beat (seated s)) ≡ false
+    no_epoch e = typed_as ∙ (λ i. fit (ltb subscription subscription_count) (e i) (is_signed (timeout_given timeout s.timeout))) ∙ and-false _
+
+    pub no_timeout : is_signed (timeout_given timeout s.timeout) ≡ false → is_typed (beat (seated s)) ≡ false
+    no_timeout e =
+        typed_as ∙ (λ i. fit (ltb subscription subscription_count) (is_signed (pos s.epoch)) (e i))
+        ∙ ap (λ (x : Bool). ltb subscription subscription_count && x) (and-false _)
+        ∙ and-false _
+
+    pub no_subscription : subscription_count ≤ subscription → is_typed (beat (seated s)) ≡ false
+    no_subscription e = typed_as ∙ (λ i. fit (le-ltb subscription subscription_count e i) (is_signed (pos s.epoch)) (is_signed (timeout_given timeout s.timeout)))
+
+    pub all_fit : subscription < subscription_count → is_signed (pos s.epoch) ≡ true → is_signed (timeout_given timeout s.timeout) ≡ true → is_typed (beat (seated s)) ≡ true
+    all_fit a b c = typed_as ∙ (λ i. fit (lt-ltb subscription subscription_count a i) (b i) (c i))
+
+    -- what the request has
+    pub beats : (epoch given : ℤ) (own : ℕ) → epoch ≡ pos s.epoch → given ≡ timeout_given timeout s.timeout → own ≡ subscription
+        → request_of (record { id = s.id; epoch = epoch; tick = t; timeout = given; has_subscription = not (eqb own s.subscription); subscription = own; has_list = moves }) []
         ≡ beating_as t (seated s) timeout subscription moves
-    unfolding request_of beating_as is_signed
-    beats epoch given has own e τ a b typed =
-        let x = and_true (ltb subscription subscription_count) _ (fits ∙ typed) in
-        let y = and_true (leb s.epoch last_epoch) _ x.1 in
-        let low = ltb-true subscription subscription_count x.0 in
-        let m : subscription % subscription_count ≡ subscription = omega (arith, low) in
-        let sub : given_subscription has own ≡ (if eqb subscription s.subscription then none else some subscription) =
-        (λ i. given_subscription (a i) ((b ∙ m) i)) ∙ turned (eqb subscription s.subscription) in
-        let given_is = τ (new_timeout_lem timeout s.timeout ∙ y.1) in
-        λ i. record { id = s.id; epoch = e y.0 i; tick = t; timeout = given_is i; subscription = sub i; owned = owned_of moves [] }
+    unfolding request_of beating_as
+    beats epoch given own e τ a =
+        let sub : given_subscription (not (eqb own s.subscription)) own ≡ (if eqb subscription s.subscription then none else some subscription) =
+        (λ i. given_subscription (not (eqb (a i) s.subscription)) (a i)) ∙ turned (eqb subscription s.subscription) in
+        λ i. record { id = s.id; epoch = e i; tick = t; timeout = τ i; subscription = sub i; owned = owned_of moves [] }
       where
         turned : (z : Bool) → given_subscription (not z) subscription ≡ (if z then none else some subscription)
         turned true = refl

@@ -1,8 +1,7 @@
 -- The bytes in a buffer and a batch, compared.
-use Rattle.std.proofs.Common.{ℕ, ◌≤◌, ◌<◌, ◌≡◌, refl, sym, ap, Bool, false, ◌&&◌, List, [], ◌∷◌, length, take}
-use lib.Dec.{eqb}
+use Rattle.std.proofs.Common.{ℕ, ◌≤◌, ◌<◌, ◌≡◌, refl, sym, ap, Bool, false, ◌&&◌, List, [], ◌∷◌, length, take, eqb, le-leb}
 use lib.Pointwise.{pointwise}
-use borrow.Author.Tests.{le-leb, lt-leb}
+use borrow.Author.Tests.{lt-leb}
 use Rattle.rules.specs.Basics.{same}
 use Rattle.rules.proofs.Lists.{same_eq}
 use Rattle.theorems.proofs.Cases.{never}

@@ -1,14 +1,8 @@
 -- Which candidate the records of a batch make, by what was gathered of them.
 use Rattle.std.specs.Prelude as P
-use Prim.Native.Nat.{ℕ}
-use mathlib.Core.Path.{◌≡◌, refl, sym, ap, ◌∙◌}
-use mathlib.Core.Bool.{Bool, true, false}
-use mathlib.Core.List.{List, [], ◌∷◌, foldl, map}
-use mathlib.Core.Option.{Option, none, some}
-use lib.Dec.{eqb}
-use lib.IntN.{pos}
-use lib.ListN.{length}
-use native.Mathlib.Omega.{arith}
+use Rattle.std.proofs.Common.{ℕ, ◌≡◌, refl, sym, ap, ◌∙◌, Bool, true, false, List, [], ◌∷◌, map, eqb, pos, length, arith}
+use mathlib.Core.List.{foldl}
+use Rattle.std.proofs.Math.Option.{Option, none, some}
 use borrow.Author.Tests.{not-true, not-false}
 use Rattle.rules.specs.Basics.{case_of, empty, given}
 use Rattle.rules.specs.Constants.{slot_count}

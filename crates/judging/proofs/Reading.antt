@@ -1,13 +1,6 @@
 -- Reading a batch: it is no batch, or its records are gathered and their candidate is judged.
-use Prim.Native.Nat.{ℕ, ◌≤◌, ◌<◌}
-use mathlib.Core.Path.{◌≡◌, refl, sym, ap, ◌∙◌}
-use mathlib.Core.Bool.{Bool, true, false, ◌&&◌, true≢false}
-use lib.Dec.{eqb}
-use mathlib.Core.List.{List, [], ◌∷◌}
-use mathlib.Core.Option.{Option, none, some}
-use native.Mathlib.Omega.{arith}
-use lib.ListN.{length}
-use borrow.Author.Tests.{eq-eqb, eqb-true, le-ltb, lt-ltb}
+use Rattle.std.proofs.Common.{ℕ, ◌≤◌, ◌<◌, ◌≡◌, refl, sym, ap, ◌∙◌, Bool, true, false, ◌&&◌, true≢false, eqb, List, [], ◌∷◌, arith, length, eq-eqb, eqb-true, le-ltb, lt-ltb}
+use Rattle.std.proofs.Math.Option.{Option, none, some}
 use Rattle.rules.specs.Basics.{all, case_of, empty}
 use Rattle.rules.specs.Constants.{batch_limit}
 use Rattle.rules.specs.Group.{Group}

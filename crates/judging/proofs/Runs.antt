@@ -1,15 +1,8 @@
 -- What a function of the coordinator ensures is what running its event is promised to be, kind by kind.
 use Rattle.std.specs.Prelude as P
-use Prim.Native.Nat.{ℕ, ◌≤◌, ◌<◌}
-use native.Mathlib.Omega.{arith}
-use mathlib.Core.Path.{◌≡◌, refl, sym, ap, ◌∙◌, subst}
-use mathlib.Core.Bool.{Bool, true, false}
-use mathlib.Core.List.{List, []}
-use mathlib.Core.Option.{Option, none, some}
-use lib.Dec.{leb}
-use lib.IntN.{ℤ, pos}
-use lib.ListN.{length}
-use borrow.Author.Tests.{eq-eqb, le-leb, lt-leb}
+use Rattle.std.proofs.Common.{ℕ, ◌≤◌, ◌<◌, arith, ◌≡◌, refl, sym, ap, ◌∙◌, subst, Bool, true, false, List, [], leb, ℤ, pos, length, eq-eqb, le-leb}
+use Rattle.std.proofs.Math.Option.{Option, none, some}
+use borrow.Author.Tests.{lt-leb}
 use Rattle.rules.specs.Constants.{batch_limit, id_length, last_epoch, max_members, slot_count}
 use Rattle.rules.specs.Group as G
 use Rattle.rules.specs.Group.{assigned, set_a}
@@ -34,26 +27,27 @@ use Rattle.batches.specs.declared.Gathered.{Gathered}
 use Rattle.batches.specs.Gathered.{Says}
 use Rattle.judging.specs.Asks.{Asks, AsksFor, beat_in}
 use Rattle.judging.specs.Choices.{if_asked}
-use Rattle.judging.specs.Reads.{Ran}
+use Rattle.judging.specs.Reads.{Ran, good_as, wrote}
 use Rattle.judging.proofs.Candidates.{beat_tick}
-use Rattle.judging.proofs.Stepping.{judges, nothing_written, untyped}
+use Rattle.judging.proofs.Stepping.{judges, untyped}
 
 -- ---- an event on the group as it is
 
 ran : {Kept : Type 0} (kept : Group → Kept) (t : ℕ) (e : Event) → AtTick t e → is_typed e ≡ true → (g g' : Group) (buf buf' list list' : List ℕ) → length buf ≡ batch_limit
     → length (effect (view g) e).told ≤ length list → (o : Outcome) → Becomes kept o g g' buf' list' (λ h. step h e buf list)
-    → retimed t (view g) ≡ view g → Ran o.written buf' (view g') t (some (tried (view g) e))
-unfolding tried
+    → retimed t (view g) ≡ view g → Ran (P.Some o) buf' (view g') t (some (tried (view g) e))
+unfolding tried wrote
 ran kept t e at typed g g' buf buf' list list' size told o b still batch fair =
     judges t (view g) e (keeps_ticks t (view g) still e at) typed buf list batch fair.stored (omega (arith, size, fair.short)) told o (view g') buf' list' b.2
 
 -- another name of the same candidate
-pub ran_as : (n : ℕ) (buf : List ℕ) (h : G.Group) (t : ℕ) (w w' : Option Witness) → w ≡ w' → Ran n buf h t w → Ran n buf h t w'
+pub ran_as : (n : P.Option Outcome) (buf : List ℕ) (h : G.Group) (t : ℕ) (w w' : Option Witness) → w ≡ w' → Ran n buf h t w → Ran n buf h t w'
 ran_as n buf h t w w' e run batch fair = run batch fair ∙ ap (judged t batch) e
 
--- nothing was written, and no batch is of the candidate
-none_ran : (buf : List ℕ) (h : G.Group) (t : ℕ) (w : Option Witness) → ((batch : List ℕ) → none ≡ judged t batch w) → Ran 0 buf h t w
-none_ran buf h t w e batch fair = nothing_written h buf batch fair.stored ∙ e batch
+-- nothing was run, and no batch is of the candidate
+none_ran : (buf : List ℕ) (h : G.Group) (t : ℕ) (w : Option Witness) → ((batch : List ℕ) → none ≡ judged t batch w) → Ran P.None buf h t w
+unfolding wrote good_as
+none_ran buf h t w e batch fair = e batch
 
 -- ---- the slots told: none but to a member
 
@@ -89,7 +83,7 @@ heartbeat_tells g b x y z =
 
 pub topic_ran : (t n : ℕ) (id : List ℕ) (k : ℕ) → length id ≡ id_length → (g g' : Group) (buf buf' : List ℕ) → length buf ≡ batch_limit
     → (o : Outcome) → ((l : List ℕ) → Becomes members_and_tables o g g' buf' l (λ h. step h (topic n id k) buf l))
-    → retimed t (view g) ≡ view g → Ran o.written buf' (view g') t (some (tried (view g) (topic n id k)))
+    → retimed t (view g) ≡ view g → Ran (P.Some o) buf' (view g') t (some (tried (view g) (topic n id k)))
 unfolding is_typed
 topic_ran t n id k long g g' buf buf' size o b =
     ran members_and_tables t (topic n id k) tt (eq-eqb (length id) id_length long) g g' buf buf' [] [] size (topic_tells (view g) n id k) o (b [])
@@ -100,7 +94,7 @@ install_typed n entries = refl
 
 pub install_ran : (t n : ℕ) (z : ℤ) (entries : List ℕ) → n ≤ last_epoch → z ≡ pos n → (g g' : Group) (buf buf' : List ℕ)
     → length buf ≡ batch_limit → (o : Outcome) → ((l : List ℕ) → Becomes all_but_target o g g' buf' l (λ h. step h (install without_rule z entries) buf l))
-    → retimed t (view g) ≡ view g → Ran o.written buf' (view g') t (some (tried (view g) (install without_rule (pos n) entries)))
+    → retimed t (view g) ≡ view g → Ran (P.Some o) buf' (view g') t (some (tried (view g) (install without_rule (pos n) entries)))
 install_ran t n z entries low is g g' buf buf' size o b =
     ran all_but_target t (install without_rule (pos n) entries) tt (install_typed n entries ∙ le-leb n last_epoch low) g g' buf buf' [] [] size
     (install_tells (view g) (pos n) entries) o
@@ -108,7 +102,7 @@ install_ran t n z entries low is g g' buf buf' size o b =
 
 -- an epoch that does not fit was never stored
 pub large_install : (buf : List ℕ) (h : G.Group) (t : ℕ) (g : G.Group) (n : ℕ) (entries : List ℕ) → last_epoch < n
-    → Ran 0 buf h t (some (tried g (install without_rule (pos n) entries)))
+    → Ran P.None buf h t (some (tried g (install without_rule (pos n) entries)))
 unfolding tried
 large_install buf h t g n entries e =
     none_ran buf h t (some (tried g (install without_rule (pos n) entries)))
@@ -123,7 +117,7 @@ not_asked t g batch none is = refl
 not_asked t g batch (some b) is = untyped t g (heartbeat b) batch is
 
 -- any other is run
-was_asked : (n : ℕ) (buf : List ℕ) (g h : G.Group) (t : ℕ) (r : Code.Request) (o : Option Request) → Asks (P.Some r) o
+was_asked : (n : P.Option Outcome) (buf : List ℕ) (g h : G.Group) (t : ℕ) (r : Code.Request) (o : Option Request) → Asks (P.Some r) o
     → ((b : Request) → o ≡ some b → b.tick ≡ t)
     → ((b : Request) → request_of r [] ≡ b → is_typed (heartbeat b) ≡ true → b.tick ≡ t → Ran n buf h t (some (tried g (heartbeat b))))
     → Ran n buf h t (if_asked g o)
@@ -136,16 +130,16 @@ module _ (said : Gathered) (t : ℕ) (g g' : Group) {bytes : List ℕ} {table : 
   unfolding view
   asked a asks = asks bytes table entries entries' s (view g) refl
 
-  pub no_heartbeat : (buf : List ℕ) → AsksFor P.None g.members.cells said t → Ran 0 buf (view g') t (if_asked (view g) (beat_in t (view g) s.records))
+  pub no_heartbeat : (buf : List ℕ) → AsksFor P.None g.members.cells said t → Ran P.None buf (view g') t (if_asked (view g) (beat_in t (view g) s.records))
   no_heartbeat buf asks =
       none_ran buf (view g') t (if_asked (view g) (beat_in t (view g) s.records)) (λ batch. not_asked t (view g) batch (beat_in t (view g) s.records) (asked P.None asks))
 
   pub heartbeat_ran : (r : Code.Request) → AsksFor (P.Some r) g.members.cells said t → length g.tables.target ≡ slot_count → length g.tables.holder ≡ slot_count
       → length g.tables.waiting ≡ slot_count → (buf buf' list list' : List ℕ) → length buf ≡ batch_limit → length list ≡ slot_count
       → (o : Outcome) → Becomes topics_of o g g' buf' list' (λ h. step h (heartbeat (request_of r [])) buf list)
-      → retimed t (view g) ≡ view g → Ran o.written buf' (view g') t (if_asked (view g) (beat_in t (view g) s.records))
+      → retimed t (view g) ≡ view g → Ran (P.Some o) buf' (view g') t (if_asked (view g) (beat_in t (view g) s.records))
   heartbeat_ran r asks x y z buf buf' list list' size wide o becomes still =
-      was_asked o.written buf' (view g) (view g') t r (beat_in t (view g) s.records) (asked (P.Some r) asks) (beat_tick t (view g) s.records)
+      was_asked (P.Some o) buf' (view g) (view g') t r (beat_in t (view g) s.records) (asked (P.Some r) asks) (beat_tick t (view g) s.records)
       (λ b is typed at. ran topics_of t (heartbeat b) at typed g g' buf buf' list list' size (omega (arith, wide, heartbeat_tells g b x y z)) o
       (subst (λ (q : Request). Becomes topics_of o g g' buf' list' (λ h. step h (heartbeat q) buf list)) is becomes) still)
 
@@ -175,8 +169,8 @@ as_removing t g ps batch = refl
 pub sweep_ran : (t : ℕ) (g g' : Group) (ms buf buf' : List ℕ) → length buf ≡ batch_limit
     → (o : Outcome) → Becomes topics_of o (record { head = g.head; members = record { cells = ms }; topics = g.topics; tables = g.tables }) g' buf' [] (λ h. step h (sweep t) buf [])
     → (ps : List ℕ) → view_members ms ≡ silent (session_before t) ps 0 (view_members g.members.cells)
-    → retimed t (view g) ≡ view g → Ran o.written buf' (view g') t (some (removing t (view g) ps))
-unfolding is_typed
+    → retimed t (view g) ≡ view g → Ran (P.Some o) buf' (view g') t (some (removing t (view g) ps))
+unfolding is_typed wrote
 sweep_ran t g g' ms buf buf' size o b ps silent still batch fair =
     let h : G.Group = (removing t (view g) ps).group in
     judges t h (sweep t) (λ _. removing_keeps t (view g) still (few g) ps) refl buf [] batch fair.stored (omega (arith, size, fair.short))

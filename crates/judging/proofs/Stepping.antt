@@ -1,15 +1,9 @@
 -- An event that the code's own function ran, with a scratch buffer no shorter than the batch, is judged as the rules judge it. Records that do not fit the
 -- buffer are longer than the batch, so not the same; and a refusal writes nothing, while a batch has bytes.
 use Rattle.std.specs.Prelude.{if◌then◌else◌}
-use Prim.Native.Nat.{ℕ, ◌≤◌, ◌<◌}
-use native.Mathlib.Omega.{arith}
-use mathlib.Core.Path.{◌≡◌, refl, sym, ap, ◌∙◌}
-use mathlib.Core.Bool.{Bool, true, false, ◌&&◌, ◌||◌, or-false, true≢false}
-use mathlib.Core.List.{List, [], ◌∷◌, ◌++◌}
-use mathlib.Core.Option.{Option, none, some}
-use lib.Dec.{ltb}
-use lib.ListN.{length, drop, length-append}
-use borrow.Author.Tests.{le-leb, le-ltb, ltb-true}
+use Rattle.std.proofs.Common.{ℕ, ◌≤◌, ◌<◌, arith, ◌≡◌, refl, sym, ap, ◌∙◌, Bool, true, false, ◌&&◌, ◌||◌, true≢false, List, [], ◌∷◌, ◌++◌, ltb, length, drop, length-append, le-leb, le-ltb, ltb-true}
+use Rattle.std.proofs.Math.Bool.{or-false}
+use Rattle.std.proofs.Math.Option.{Option, none, some}
 use Rattle.rules.specs.Basics.{empty, same}
 use Rattle.rules.specs.Group.{Group}
 use Rattle.rules.specs.Records.{all_bytes}
@@ -43,7 +37,7 @@ first_refuses ((y when false) ∷ rows) r x b e = first_refuses rows r x b e
 abbrev read_of : Stepped → List ℕ → Option Group
 read_of s batch = good_as (is_batch s.buffer s.written batch) s.group
 
-pub nothing_written : (g : Group) (buf batch : List ℕ) → empty batch ≡ false → good_as (is_batch buf 0 batch) g ≡ none
+nothing_written : (g : Group) (buf batch : List ℕ) → empty batch ≡ false → good_as (is_batch buf 0 batch) g ≡ none
 unfolding good_as is_batch
 nothing_written g buf [] z = absurd (true≢false z)
 nothing_written g buf (b ∷ batch) z = rw (le-leb 0 (length buf) (omega arith))

@@ -1,16 +1,8 @@
 -- The columns of the ticks set: what the members that they stand for become.
 use Rattle.std.specs.Prelude.{if◌then◌else◌}
-use Prim.Native.Nat.{ℕ, suc, ◌+◌, ◌%◌, ◌≤◌, ◌<◌}
-use native.Mathlib.Omega.{arith}
-use native.Mathlib.Nat.{zero-add}
-use mathlib.Core.Path.{◌≡◌, refl, sym, ap, ◌∙◌}
-use mathlib.Core.Bool.{Bool, true, false, ◌&&◌}
-use mathlib.Core.List.{List, [], ◌∷◌, map}
-use mathlib.Core.Option.{Option, none, some}
-use lib.Dec.{eqb}
-use lib.ListN.{length, get_or, set, length-map, length-set, get_or-map}
-use lib.Seq.{ext_get_or, get_or-set_same, get_or-set_other}
-use borrow.Author.Count.{below_none, below_more}
+use Rattle.std.proofs.Common.{ℕ, suc, ◌+◌, ◌%◌, ◌≤◌, ◌<◌, arith, zero-add, ◌≡◌, refl, sym, ap, ◌∙◌, Bool, true, false, ◌&&◌, List, [], ◌∷◌, map, eqb, length, get_or, set, length-set, ext_get_or, get_or-set_same, get_or-set_other, below_none, below_more}
+use Rattle.std.proofs.Math.Option.{Option, none, some}
+use lib.ListN.{length-map, get_or-map}
 use Rattle.rules.specs.Basics.{any}
 use Rattle.rules.specs.Constants.{max_members, subscription_count}
 use Rattle.rules.specs.Group as G

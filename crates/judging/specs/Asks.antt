@@ -6,7 +6,7 @@ use Rattle.rules.specs.Basics.{case_of}
 use Rattle.rules.specs.Group as G
 use Rattle.rules.specs.Records.{MemberMetadata, Record}
 use Rattle.rules.specs.Event.{Request, heartbeat}
-use Rattle.rules.specs.Batches.{current_in, entering, is_typed, member_in, moving}
+use Rattle.rules.specs.Batches.{current_in, entering, is_signed, is_typed, member_in, moving}
 use Rattle.group.specs.Columns.{view_members}
 use Rattle.events.specs.Outcomes.{request_of}
 use Rattle.events.specs.declared.Request as Code
@@ -21,6 +21,11 @@ metadata_as m = record { place = m.place; id = m.id; timeout = m.timeout; subscr
 -- what of a timeout is new
 unfoldable pub timeout_given : ℕ → ℕ → ℤ
 timeout_given timeout had = if eqb timeout had then negsuc 0 else pos timeout
+
+-- a number that is signed is given, and no other
+abbrev pub Gives : ℤ → P.Option ℤ → Type 0
+Gives z P.None = is_signed z ≡ false
+Gives z (P.Some n) = (is_signed z ≡ true) × (n ≡ z)
 
 -- `beating` of the rules, for the member at its place
 unfoldable pub beating_as : ℕ → G.Member → ℕ → ℕ → Bool → Request

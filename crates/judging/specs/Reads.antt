@@ -1,5 +1,6 @@
 -- What reading a batch is promised to be, and what running the one event is that it can be of.
 use Rattle.std.specs.Prelude.{ℕ, ◌≤◌, ◌≡◌, Bool, false, ◌&&◌, List, length, take, leb, if◌then◌else◌}
+use Rattle.std.specs.Prelude as P
 use Rattle.std.proofs.Math.Option.{Option, none, some}
 use Rattle.rules.specs.Basics.{empty, same}
 use Rattle.rules.specs.Constants.{batch_limit}
@@ -7,6 +8,7 @@ use Rattle.rules.specs.Group as G
 use Rattle.rules.specs.Batches.{Witness, judged, read_batch}
 use Rattle.group.specs.View.{view}
 use Rattle.group.specs.declared.Group.{Group}
+use Rattle.events.specs.declared.Outcome.{Outcome}
 
 -- a batch that is good is read as the group after it
 unfoldable pub good_as : Bool → G.Group → Option G.Group
@@ -28,7 +30,12 @@ pub record Fair (batch : List ℕ) : Type 0 where
 unfoldable pub is_batch : List ℕ → ℕ → List ℕ → Bool
 is_batch buffer n batch = leb n (length buffer) && same (take n buffer) batch
 
+-- what was run wrote the batch; and nothing did, where nothing was run
+unfoldable pub wrote : List ℕ → P.Option Outcome → List ℕ → Bool
+wrote buffer P.None batch = false
+wrote buffer (P.Some o) batch = is_batch buffer o.written batch
+
 -- a candidate was run: by the bytes that it wrote to the buffer, and the group after it, every batch is judged
-abbrev pub Ran : ℕ → List ℕ → G.Group → ℕ → Option Witness → Type 0
-Ran written buffer after t candidate =
-    (batch : List ℕ) → Fair batch → good_as (is_batch buffer written batch) after ≡ judged t batch candidate
+abbrev pub Ran : P.Option Outcome → List ℕ → G.Group → ℕ → Option Witness → Type 0
+Ran ran buffer after t candidate =
+    (batch : List ℕ) → Fair batch → good_as (wrote buffer ran batch) after ≡ judged t batch candidate

@@ -1,22 +1,19 @@
 // The heartbeat that the records of a batch can only be of, as data: with a record 5 a join or an ordinary heartbeat, with a record 8 alone an ordinary one.
-ghost use Rattle.std.specs.Prelude.{◌≡◌, Bool, true, [], ℕ, pos, get_or};
+ghost use Rattle.std.specs.Prelude.{◌≡◌, get_or};
 ghost use Rattle.std.proofs.Math.Option.{Option, none, some};
-ghost use Rattle.rules.specs.Basics.{default};
-ghost use Rattle.rules.specs.Batches.{is_join, is_signed, is_typed, joining};
-ghost use Rattle.rules.specs.Event as E;
+ghost use Rattle.rules.specs.Batches.{is_join, joining};
 ghost use Rattle.rules.specs.Records.{CurrentAssignment};
 ghost use Rattle.group.specs.Columns.{view_members};
 ghost use Rattle.group.specs.View.{seated, view_seat};
-ghost use Rattle.events.specs.Outcomes.{request_of};
 ghost use Rattle.batches.specs.Gathered.{current_as, epoch_as, standing};
-ghost use Rattle.judging.specs.Asks.{Asks, AsksFor, beating_as, metadata_as, timeout_given};
+ghost use Rattle.judging.specs.Asks.{Asks, AsksFor, Gives, beating_as, metadata_as, timeout_given};
 
 use batches::Gathered;
 use events::Request;
+use group::Seat;
 use group::members::Members;
-use group::{SUBSCRIPTIONS, Seat};
 use reading::Member;
-use rules::{CLOCK_LIMIT, LAST_EPOCH, Place};
+use rules::Place;
 
 // Whether a record 8 has the epoch of a record 3: then its member has joined.
 fn is_join(said: Gathered) -> bool
@@ -32,73 +29,59 @@ fn is_join(said: Gathered) -> bool
 fn join(m: Member, tick: u32) -> Option<Request>
     ensures { Asks result (some (joining tick (metadata_as m))) }
 {
-    if LAST_EPOCH < m.timeout {
-        return None;
-    }
-    if SUBSCRIPTIONS <= m.subscription {
-        return None;
-    }
+    let timeout = i32::try_from(m.timeout).ok()?;
+    let subscription = u16::try_from(m.subscription).ok()?;
     let id = m.id;
     Some(Request {
-        id: id,
+        id,
         epoch: 0,
-        tick: tick,
-        timeout: m.timeout as i32,
+        tick,
+        timeout,
         has_subscription: true,
-        subscription: m.subscription as u16,
+        subscription,
         has_list: true,
     })
 }
 
-// Whether the heartbeat of a seat's member, that gives what is new to it, has numbers that fit.
-fn is_typed(seat: Seat, timeout: u32, subscription: u32) -> bool
-    ensures { (t : ℕ) (moves : Bool) → result ≡ is_typed (E.heartbeat (beating_as t (seated seat) timeout subscription moves)) }
-{
-    let timeout_fits = (timeout == seat.timeout) | (timeout <= LAST_EPOCH);
-    (subscription < SUBSCRIPTIONS) & ((seat.epoch <= LAST_EPOCH) & timeout_fits)
+// What a seat's member says: with an empty list of owned slots if it `moves`, that is with a record 8, or without one.
+#[derive(Clone, Copy)]
+struct Beat {
+    seat: Seat,
+    timeout: u32,
+    subscription: u32,
+    moves: bool,
 }
 
-// A number of 31 bits as a signed one.
-fn signed(n: u32) -> i32
-    ensures { is_signed (pos n) ≡ true → result ≡ pos n }
-{
-    (n % CLOCK_LIMIT) as i32
-}
-
-// A timeout as a heartbeat gives it: -1 if it is the member's own.
-fn given_timeout(timeout: u32, had: u32) -> i32
-    ensures { is_signed (timeout_given timeout had) ≡ true → result ≡ timeout_given timeout had }
-{
-    if timeout == had {
-        return -1;
+impl Beat {
+    // The timeout that it gives, -1 if it is the member's own, if that fits.
+    fn given_timeout(self) -> Option<i32>
+        ensures { Gives (timeout_given self.timeout self.seat.timeout) result }
+    {
+        if self.timeout == self.seat.timeout {
+            return Some(-1);
+        }
+        i32::try_from(self.timeout).ok()
     }
-    signed(timeout)
-}
 
-// The heartbeat of a seat's member: with an empty list of owned slots if it `moves`, that is with a record 8, or without one.
-fn beat(seat: Seat, timeout: u32, subscription: u32, moves: bool, tick: u32) -> Request
-    ensures { is_typed (E.heartbeat (beating_as tick (seated seat) timeout subscription moves)) ≡ true → request_of result [] ≡ beating_as tick (seated seat) timeout subscription moves }
-{
-    let id = seat.id;
-    Request {
-        id: id,
-        epoch: signed(seat.epoch),
-        tick: tick,
-        timeout: given_timeout(timeout, seat.timeout),
-        has_subscription: subscription != seat.subscription as u32,
-        subscription: (subscription % SUBSCRIPTIONS) as u16,
-        has_list: moves,
+    // Its heartbeat, with what is new to the member, if its numbers fit.
+    fn request(self, tick: u32) -> Option<Request>
+        ensures { Asks result (some (beating_as tick (seated self.seat) self.timeout self.subscription self.moves)) }
+    {
+        let seat = self.seat;
+        let epoch = i32::try_from(seat.epoch).ok()?;
+        let timeout = self.given_timeout()?;
+        let subscription = u16::try_from(self.subscription).ok()?;
+        let id = seat.id;
+        Some(Request {
+            id,
+            epoch,
+            tick,
+            timeout,
+            has_subscription: subscription != seat.subscription,
+            subscription,
+            has_list: self.moves,
+        })
     }
-}
-
-// An ordinary heartbeat of a seat's member, if its numbers fit.
-fn ordinary(seat: Seat, timeout: u32, subscription: u32, moves: bool, tick: u32) -> Option<Request>
-    ensures { Asks result (some (beating_as tick (seated seat) timeout subscription moves)) }
-{
-    if is_typed(seat, timeout, subscription) {
-        return Some(beat(seat, timeout, subscription, moves, tick));
-    }
-    None
 }
 
 // The seat at a place of a record.
@@ -117,15 +100,21 @@ pub fn ask(members: &Members, said: Gathered, tick: u32) -> Option<Request>
             return join(m, tick);
         }
         let seat = seat_of(members, m.place)?;
-        return ordinary(
+        let beat = Beat {
             seat,
-            m.timeout,
-            m.subscription,
-            said.current.is_some(),
-            tick,
-        );
+            timeout: m.timeout,
+            subscription: m.subscription,
+            moves: said.current.is_some(),
+        };
+        return beat.request(tick);
     }
     let (place, _) = said.current?;
     let seat = seat_of(members, place)?;
-    ordinary(seat, seat.timeout, seat.subscription as u32, true, tick)
+    let beat = Beat {
+        seat,
+        timeout: seat.timeout,
+        subscription: seat.subscription as u32,
+        moves: true,
+    };
+    beat.request(tick)
 }

@@ -30,8 +30,8 @@ fn attempt(
 {
     let old = *group;
     retiming::retime(group, tick);
-    let written = choosing::run_candidate(group, said, gone, entries, tick, scratch, list);
-    if is_batch(scratch, written, batch) {
+    let ran = choosing::run_candidate(group, said, gone, entries, tick, scratch, list);
+    if is_batch(scratch, ran, batch) {
         return true;
     }
     *group = old;

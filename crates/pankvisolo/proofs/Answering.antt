@@ -1,7 +1,5 @@
 -- A reply has the numbers of the outcome that it was made of: so what a function of the coordinator ensures is what the library's ensures.
-use Prim.Native.Nat.{ℕ}
-use mathlib.Core.Path.{◌≡◌, refl, sym, ap, ◌∙◌, subst}
-use mathlib.Core.List.{List}
+use Rattle.std.proofs.Common.{ℕ, ◌≡◌, refl, sym, ap, ◌∙◌, subst, List}
 use Rattle.rules.specs.Answers.{Said, said}
 use Rattle.rules.specs.Event.{Event}
 use Rattle.rules.specs.Step.{step}

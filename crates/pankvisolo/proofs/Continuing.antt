@@ -1,9 +1,5 @@
 -- Brokers on this library have the group and the file of the life that they live.
-use Prim.Native.Nat.{ℕ}
-use mathlib.Core.Path.{◌≡◌, refl, ap, ap₂, ◌∙◌}
-use mathlib.Core.Bool.{Bool}
-use mathlib.Core.List.{List, ◌++◌}
-use lib.ListN.{length, take}
+use Rattle.std.proofs.Common.{ℕ, ◌≡◌, refl, ap, ap₂, ◌∙◌, Bool, List, ◌++◌, length, take}
 use lib.Seq.{take-length}
 use Rattle.rules.specs.Group as G
 use Rattle.rules.specs.Course.{stepped}

@@ -1,8 +1,8 @@
 -- A run of the library is one of the coordinator: the numbers of a step's answer stand for that answer, since an accepted event is answered by its kind and no two
 -- refusals have the same number. So demand 3 of the coordinator is demand 3 of the library.
-use mathlib.Core.Path.{◌≡◌, refl, ap, ◌∙◌, subst}
-use mathlib.Core.List.{List, [], ◌∷◌, ◌++◌, map, map-append}
-use mathlib.Core.Option.{Option, none, some}
+use Rattle.std.proofs.Common.{◌≡◌, refl, ap, ◌∙◌, subst, List, [], ◌∷◌, ◌++◌, map}
+use Rattle.std.proofs.lemmas.List.{map-append}
+use Rattle.std.proofs.Math.Option.{Option, none, some}
 use Rattle.rules.specs.Group as G
 use Rattle.rules.specs.Event.{Event, Request, heartbeat, sweep, topic, install}
 use Rattle.rules.specs.Answers.{said}

@@ -27,6 +27,7 @@ use group::Group;
 use rules::{ID_LENGTH, SLOTS};
 
 // The 16 bytes of a topic's ID.
+// As it is: the C interface has no array by value, and `rules::Id` is one.
 #[repr(C)]
 #[derive(Clone, Copy)]
 pub struct Id {
@@ -35,6 +36,7 @@ pub struct Id {
 
 // An answer: 01's number (0: accepted); the heartbeat interval; the epoch, -1 for a leave; how many slots the answer carries or members a sweep removed;
 // the slot that is reported, or 65,535; how many bytes of records were written.
+// As it is: the C interface; `Decodes` is about these numbers.
 #[repr(C)]
 #[derive(Clone, Copy)]
 pub struct Reply {
@@ -48,6 +50,7 @@ pub struct Reply {
 
 // What a reading says of a journal: WHOLE, TORN or REFUSED; and where its good part ends, and the next batch is to stand: where a torn tail begins, or the offset of
 // the refusal.
+// As it is: the C interface has a number for a verdict, and a field for the end.
 #[repr(C)]
 #[derive(Clone, Copy)]
 pub struct Reading {
@@ -63,6 +66,7 @@ pub const REFUSED: u32 = 2;
 
 // What stands at a place of a journal, where a length would: BATCH, and the batch from `start` to `end`; or WHOLE, if the bytes end there, TORN, if they end inside a
 // length or a batch, REFUSED, if that is no length. Then `start` and `end` are the place.
+// As it is: the C interface, as in `Reading`.
 #[repr(C)]
 #[derive(Clone, Copy)]
 pub struct Extent {

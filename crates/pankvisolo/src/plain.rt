@@ -30,20 +30,12 @@ impl From<Outcome> for Reply {
 pub fn reading(read: Result<(), Damage>, length: usize) -> Reading
     ensures { (result.verdict ≡ verdict_number (verdict_as read)) × (result.end ≡ good_end (verdict_as read) length) }
 {
-    match read {
-        Ok(()) => Reading {
-            verdict: WHOLE,
-            end: length,
-        },
-        Err(Damage::RefusedAt(at)) => Reading {
-            verdict: REFUSED,
-            end: at,
-        },
-        Err(Damage::TornFrom(at)) => Reading {
-            verdict: TORN,
-            end: at,
-        },
-    }
+    let (verdict, end) = match read {
+        Ok(()) => (WHOLE, length),
+        Err(Damage::TornFrom(at)) => (TORN, at),
+        Err(Damage::RefusedAt(at)) => (REFUSED, at),
+    };
+    Reading { verdict, end }
 }
 
 // The numbers of what stands at a place.
@@ -57,8 +49,8 @@ pub fn extent(found: Result<(usize, usize), NoBatch>, at: usize) -> Extent
         Err(NoBatch::Bad) => (REFUSED, at, at),
     };
     Extent {
-        verdict: verdict,
-        start: start,
-        end: end,
+        verdict,
+        start,
+        end,
     }
 }

@@ -1,6 +1,5 @@
 -- `coordinator::fresh` meets its contract: its view is the rules' fresh group, of which the rules' theorems hold, and a run of the code is a run of the rules.
-use Prim.Native.Nat.{ℕ}
-use mathlib.Core.Path.{◌≡◌, sym, subst}
+use Rattle.std.proofs.Common.{ℕ, ◌≡◌, sym, subst}
 use Rattle.rules.specs.Group.{fresh}
 use Rattle.rules.specs.Course.{SingleHolder}
 use Rattle.rules.specs.Rounds.{ThreeRounds}

@@ -1,8 +1,5 @@
 -- What is lacking is told by what was given, field by field. The timeout is handed on as it came.
-use Rattle.std.proofs.Common.{ap, ◌∙◌, rules}
-use mir.Syntax.{w32}
-use mir.Val.{SFits}
-use mir.Facts.{to_z-of_z}
+use Rattle.std.proofs.Common.{ap, ◌∙◌, rules, w32, SFits, to_z-of_z}
 use Rattle.rules.specs.Refusals.{lacking, no_timeout}
 use Rattle.events.specs.Outcomes.{request_of}
 use Rattle.joining.proofs.JoinRows.{lacks}

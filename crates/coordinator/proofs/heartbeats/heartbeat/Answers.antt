@@ -1,8 +1,6 @@
 -- Each arm is the step of its kind, and the epoch has that kind: as bits it reads back as itself.
-use Rattle.std.proofs.Common.{rules, ap, refl, ◌∙◌}
+use Rattle.std.proofs.Common.{rules, ap, refl, ◌∙◌, w32, SFits}
 use Rattle.std.proofs.Math.Facts.{to_z-of_z}
-use mir.Syntax.{w32}
-use mir.Val.{SFits}
 use Rattle.rules.specs.Refusals.{kind_of}
 use Rattle.group.specs.Kinds.{view_kind}
 use Rattle.events.specs.Outcomes.{request_of}

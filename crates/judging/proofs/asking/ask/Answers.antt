@@ -1,7 +1,7 @@
 -- At each `return` the tests that led there say which heartbeat it is.
 use Rattle.std.specs.Prelude as P
 use Rattle.std.proofs.Common.{Bool, sym, subst, ◌∙◌}
-use mathlib.Core.Option.{some}
+use Rattle.std.proofs.Math.Option.{some}
 use Rattle.rules.specs.Group.{member_at}
 use Rattle.rules.specs.Batches.{current_in}
 use Rattle.group.specs.View.{seated}
@@ -29,12 +29,12 @@ pub returns-in-Some : goal.returns-in-Some
 returns-in-Some c bytes table e e' s g is =
     let a = c.args in
     let m = c.in-Some.m in
-    let r = c.ordinary.result in
+    let r = c.request.result in
     let seat = c.in_ok-seat.seat in
     let stays = sym (c.is_join.ensures (current_in s.records) s.current) ∙ c.if-is_join.false in
     subst (Asks r) (beat_beating s a.tick g m c.in-Some.is stays)
     (beats_at r a.tick g a.members.now.cells is m.place seat c.in_ok-seat.ensures m.timeout m.subscription (P.is_some a.said.current)
-    (subst (λ (b : Bool). Asks r (some (beating_as a.tick (seated seat) m.timeout m.subscription b))) c.is_some.ensures c.ordinary.ensures))
+    (subst (λ (b : Bool). Asks r (some (beating_as a.tick (seated seat) m.timeout m.subscription b))) c.is_some.ensures c.request.ensures))
 
 pub returns-in_err-place : goal.returns-in_err-place
 returns-in_err-place c bytes table e e' s g is =
@@ -54,6 +54,6 @@ pub returns : goal.returns
 returns c bytes table e e' s g is =
     let a = c.args in
     let p = c.in_ok-place.place in
-    let r = c.ordinary-2.result in
+    let r = c.request-2.result in
     subst (Asks r) (beat_moving s a.tick g c.in_default.is p _ c.in_ok-place.was)
-    (moves_at r a.tick g a.members.now.cells is p c.in_ok-seat-2.seat c.in_ok-seat-2.ensures c.ordinary-2.ensures)
+    (moves_at r a.tick g a.members.now.cells is p c.in_ok-seat-2.seat c.in_ok-seat-2.ensures c.request-2.ensures)

@@ -1,9 +1,16 @@
-use Rattle.std.proofs.Common.{take, ◌∙◌}
+use Rattle.std.proofs.Common.{take, refl, ◌∙◌}
+use Rattle.judging.specs.Reads.{wrote}
 use Rattle.judging.proofs.Bytes.{pointwise_same, too_short, whole}
 use Rattle.judging.proofs.comparing.is_batch.Goals as goal
 
+pub returns-in_default : goal.returns-in_default
+unfolding wrote
+returns-in_default c = rw c.in_default.is refl
+
 pub returns-then-buffer-n : goal.returns-then-buffer-n
-returns-then-buffer-n c = let a = c.args in too_short a.buffer.now a.batch.now a.n c.if-buffer-n.true
+unfolding wrote
+returns-then-buffer-n c = let a = c.args in rw c.in-Some.is (too_short a.buffer.now a.batch.now _ c.if-buffer-n.true)
 
 pub returns : goal.returns
-returns c = let a = c.args in c.eq.ensures ∙ pointwise_same (take a.n a.buffer.now) a.batch.now ∙ whole a.buffer.now a.batch.now a.n c.if-buffer-n.false
+unfolding wrote
+returns c = let a = c.args in rw c.in-Some.is (c.eq.ensures ∙ pointwise_same (take _ a.buffer.now) a.batch.now ∙ whole a.buffer.now a.batch.now _ c.if-buffer-n.false)

@@ -1,5 +1,4 @@
-use native.Mathlib.Omega.{arith}
-use Rattle.std.proofs.Common.{rules, length, ◌≡◌}
+use Rattle.std.proofs.Common.{rules, length, ◌≡◌, arith}
 use Rattle.judging.proofs.Ticks.{all_ticked, none_ticked, one_ticked}
 use Rattle.judging.proofs.retiming.retime_members.Goals as goal
 

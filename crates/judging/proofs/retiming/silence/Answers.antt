@@ -1,5 +1,4 @@
-use native.Mathlib.Omega.{arith}
-use Rattle.std.proofs.Common.{ℕ, ap, sym, subst, ◌+◌, ◌∙◌}
+use Rattle.std.proofs.Common.{ℕ, ap, sym, subst, ◌+◌, ◌∙◌, arith}
 use Rattle.rules.specs.Batches.{silent}
 use Rattle.group.specs.Columns.{view_members}
 use Rattle.group.proofs.Columns.{members_long}
