@@ -11,6 +11,7 @@ use mathlib.Core.Option.{Option, none, some}
 use lib.Dec.{eqb}
 use lib.ListN.{length, get_or, length-append, drop_of_length-le}
 use borrow.Author.Tests.{ne_eqb}
+use Rattle.std.specs.Int.{w128, from_be_bytes}
 use Rattle.rules.specs.Basics.{case_of, concat_map, default, indices, keep, up_to}
 use Rattle.rules.specs.Constants.{max_members, max_partitions, slot_count, topic_count}
 use Rattle.rules.specs.Group as G
@@ -21,17 +22,16 @@ use Rattle.rules.proofs.Lists.{Listed}
 use Rattle.ranges.proofs.Sorting.{Each, each_map, indices_keep, indices_pass, keep_sort, sort_same, up_rising}
 use Rattle.ranges.proofs.Runs.{padded_long, runs_most}
 use Rattle.numbers.specs.Buffer.{Wrote}
-use Rattle.group.specs.declared.Group.{Group}
 use Rattle.group.specs.Columns.{numbers_at, view_members}
 use Rattle.group.specs.Entries.{subscription_of}
 use Rattle.group.specs.Topics.{topic_of}
 use Rattle.group.specs.Topics as T
-use Rattle.group.specs.View.{view, view_topic, view_topics}
+use Rattle.group.specs.View.{view_topic, view_topics}
 use Rattle.group.proofs.Columns.{members_long}
 use Rattle.group.proofs.Installing.{subscribes_is, subscriptions_at}
 use Rattle.group.proofs.PlaceTests.{somebody}
 use Rattle.group.proofs.Putting.{made_at}
-use Rattle.assignor.specs.Keys.{half_length, half_of, HalvesOf, key_in}
+use Rattle.assignor.specs.Keys.{KeysOf, key_in}
 use Rattle.assignor.specs.Shares.{all_entries, among, entries_of}
 use Rattle.assignor.proofs.Numbering.{key_precedes}
 use Rattle.assignor.proofs.Ordering.{sort_alike, up_below}
@@ -57,36 +57,34 @@ all_same : (f h : ℕ → List ℕ) (P : ℕ → Type 0) → ((t : ℕ) → P t 
 all_same f h P e [] a = refl
 all_same f h P e (t ∷ ts) a = ap₂ (λ (x y : List ℕ). x ++ y) (e t a.0) (all_same f h P e ts a.1)
 
-module _ (g : Group) (high low : List ℕ) (first : HalvesOf g.members.cells 0 high)
-    (second : HalvesOf g.members.cells half_length low) where
-  abbrev ms : List ℕ
-  ms = g.members.cells
-
+module _ (g : G.Group) (ids counts : List ℕ) (topics : g.topics ≡ view_topics ids counts) (ms : List ℕ) (members : g.members ≡ view_members ms)
+    (keys : List ℕ) (are : KeysOf ms keys) where
   abbrev named : ℕ → List ℕ
   named p = (numbers_at ms p).id
 
   abbrev order : List ℕ
-  order = sort_by (key_in high low) (up_to 0 max_members)
+  order = sort_by (key_in keys) (up_to 0 max_members)
 
   abbrev subscriptions : List ℕ
   subscriptions = map subscription_of (view_members ms)
 
-  key_at : (p : ℕ) → p < max_members → key_in high low p ≡ half_of 0 (named p) ∷ half_of half_length (named p) ∷ []
+  key_at : (p : ℕ) → p < max_members → key_in keys p ≡ from_be_bytes w128 (named p) ∷ []
   unfolding key_in
-  key_at p h = ap₂ (λ (x y : ℕ). x ∷ y ∷ []) (first.same p h) (second.same p h)
+  key_at p h = ap (λ (x : ℕ). x ∷ []) (are.same p h)
 
   by_id : order ≡ sort_by named (up_to 0 max_members)
   by_id =
-      sort_alike (key_in high low) named (λ p. p < max_members)
-      (λ p q h k. ap₂ precedes (key_at p h) (key_at q k) ∙ key_precedes (named p) (named q) (first.named p h) (first.named q k))
+      sort_alike (key_in keys) named (λ p. p < max_members)
+      (λ p q h k. ap₂ precedes (key_at p h) (key_at q k) ∙ key_precedes (named p) (named q) (are.named p h) (are.named q k))
       (up_to 0 max_members) (up_below 0 max_members)
 
-  id_is : (t q : ℕ) → Listed (subscribes t) (view_members ms) 0 none q → named q ≡ id_at (view g) q
-  unfolding view id_at member_at
+  id_is : (t q : ℕ) → Listed (subscribes t) (view_members ms) 0 none q → named q ≡ id_at g q
+  unfolding id_at member_at
   id_is t q h =
       let e : q ≡ h.0 = h.1 ∙ zero-add h.0 in
       let s : subscribes t (get_or (view_members ms) q none) ≡ true = ap (λ (k : ℕ). subscribes t (get_or (view_members ms) k none)) e ∙ h.3 in
       ap (λ (m : Option G.Member). (default nobody m).id) (sym (somebody ms q (there t _ s)))
+      ∙ ap (λ (l : List (Option G.Member)). (default nobody (get_or l q none)).id) (sym members)
 
   kept : (t : ℕ) → keep (λ p. includes_topic t (get_or subscriptions p 0)) (up_to 0 max_members) ≡ indices (subscribes t) 0 (view_members ms)
   kept t =
@@ -95,28 +93,30 @@ module _ (g : Group) (high low : List ℕ) (first : HalvesOf g.members.cells 0 h
       (λ k l. ap (λ (p : ℕ). includes_topic t (get_or subscriptions p 0)) (zero-add k) ∙ ap (includes_topic t) (subscriptions_at (view_members ms) k)
       ∙ sym (subscribes_is t (get_or (view_members ms) k none)))
 
-  subscribers_are : (t : ℕ) → among order subscriptions t ≡ subscribers_of (view g) t
-  unfolding view among subscribers_of
+  subscribers_are : (t : ℕ) → among order subscriptions t ≡ subscribers_of g t
+  unfolding among subscribers_of
   subscribers_are t =
       ap (keep (λ p. includes_topic t (get_or subscriptions p 0))) by_id
       ∙ keep_sort named (λ p. includes_topic t (get_or subscriptions p 0)) (up_to 0 max_members) (up_rising 0 max_members)
       ∙ ap (sort_by named) (kept t)
-      ∙ sort_same named (id_at (view g)) (indices (subscribes t) 0 (view_members ms))
+      ∙ sort_same named (id_at g) (indices (subscribes t) 0 (view_members ms))
       (each_map (id_is t) (indices (subscribes t) 0 (view_members ms)) (indices_pass (subscribes t) none 0 (view_members ms)))
+      ∙ ap (λ (l : List (Option G.Member)). sort_by (id_at g) (indices (subscribes t) 0 l)) (sym members)
 
-  partitions_are : (t : ℕ) → t < topic_count → min (get_or g.topics.counts t 0) max_partitions ≡ partitions_of (view g) t
-  unfolding view partitions_of
+  partitions_are : (t : ℕ) → t < topic_count → min (get_or counts t 0) max_partitions ≡ partitions_of g t
+  unfolding partitions_of
   partitions_are t h =
-      count_of (T.id_at g.topics.ids t) (get_or g.topics.counts t 0)
-      ∙ ap (λ (x : Option G.Topic). case_of x 0 (λ (k : G.Topic). min k.count max_partitions)) (sym (topic_here g.topics.ids g.topics.counts t h))
+      count_of (T.id_at ids t) (get_or counts t 0)
+      ∙ ap (λ (x : Option G.Topic). case_of x 0 (λ (k : G.Topic). min k.count max_partitions))
+      (sym (ap (λ (l : List (Option G.Topic)). get_or l t none) topics ∙ topic_here ids counts t h))
 
-  entries_are : (t : ℕ) → t < topic_count → entries_of order subscriptions g.topics.counts t ≡ topic_target (view g) t
+  entries_are : (t : ℕ) → t < topic_count → entries_of order subscriptions counts t ≡ topic_target g t
   unfolding entries_of topic_target owners_of
   entries_are t h = rw (subscribers_are t, partitions_are t h)
 
-  pub all_are : all_entries (sort_by (key_in high low) (up_to 0 max_members)) (map subscription_of (view_members ms)) g.topics.counts ≡ range_target (view g)
+  pub all_are : all_entries (sort_by (key_in keys) (up_to 0 max_members)) (map subscription_of (view_members ms)) counts ≡ range_target g
   unfolding all_entries range_target
-  all_are = all_same (entries_of order subscriptions g.topics.counts) (topic_target (view g)) (λ t. t < topic_count) entries_are (up_to 0 topic_count) (up_below 0 topic_count)
+  all_are = all_same (entries_of order subscriptions counts) (topic_target g) (λ t. t < topic_count) entries_are (up_to 0 topic_count) (up_below 0 topic_count)
 
 -- ---- one topic after another
 

@@ -2,19 +2,21 @@
 // subscribers' IDs. The places are sorted once, by their IDs as numbers; each topic then takes one pass over them.
 #![tactic(auto)]
 
-ghost use Rattle.std.specs.Prelude.{◌≡◌, suc, ◌≤◌, ◌<◌, min, ltb, length, replicate, if◌then◌else◌};
+ghost use Rattle.std.specs.Prelude.{◌≡◌, List, ℕ, suc, ◌≤◌, ◌<◌, min, ltb, length, replicate, if◌then◌else◌};
 ghost use Rattle.rules.specs.Constants.{max_partitions, slot_count, topic_count};
+ghost use Rattle.rules.specs.Group.{Group};
 ghost use Rattle.rules.specs.Assignor.{padded, range_target, runs};
 ghost use Rattle.numbers.specs.Buffer.{Wrote};
-ghost use Rattle.group.specs.View.{view};
+ghost use Rattle.group.specs.Columns.{view_members};
+ghost use Rattle.group.specs.View.{view_topics};
 ghost use Rattle.assignor.specs.Keys.{Places};
 ghost use Rattle.assignor.specs.Shares.{among, all_entries, Lists};
 
-mod keys; // keys.rt: the ID at each place as two numbers
+mod keys; // keys.rt: the ID at each place as a number
 mod order; // order.rt: the places in rising order of ID
 
-use group::Group;
-use keys::Keys;
+use group::members::Members;
+use group::topics::Topics;
 use rules::{MEMBERS, NO_PLACE, PARTITIONS, SLOTS, TOPICS};
 
 // Writes an entry so many times at the start of `out`, and returns how many.
@@ -109,11 +111,11 @@ fn put_topics(
 }
 
 // For each slot the place that it goes to, or 255 for none.
-pub fn range_target(group: &Group, entries: &mut [u8; SLOTS])
-    ensures { entries.new ≡ range_target (view group.now) }
+pub fn range_target(members: &Members, topics: &Topics, entries: &mut [u8; SLOTS])
+    ensures { (g : Group) (ids : List ℕ) → g.topics ≡ view_topics ids topics.now.counts → g.members ≡ view_members members.now.cells → entries.new ≡ range_target g }
 {
-    let keys = Keys::of(&group.members);
+    let keys = keys::of(members);
     let order = order::sorted(&keys);
-    let subscriptions = group.members.subscriptions();
-    put_topics(entries, &order, &subscriptions, &group.topics.counts);
+    let subscriptions = members.subscriptions();
+    put_topics(entries, &order, &subscriptions, &topics.counts);
 }

@@ -11,15 +11,15 @@ use borrow.Author.Tests.{lt-ltb, le-ltb, le-leb, lt-leb, eq-eqb, ne_eqb}
 use Rattle.rules.specs.Constants.{batch_limit}
 use Rattle.rules.specs.Journal.{read_length, second_group}
 use Rattle.frames.specs.Forms.{LengthAt}
-use Rattle.frames.specs.declared.NoLength.{NoLength}
-use Rattle.frames.specs.declared.NoLength.TheVariants as L
+use Rattle.frames.specs.declared.NoBatch.{NoBatch}
+use Rattle.frames.specs.declared.NoBatch.TheVariants as X
 
 module _ (s : List ℕ) (at : ℕ) where
-  pub none_left : length s ≤ at → LengthAt s at (read_length (drop at s)) (Err L.End)
+  pub none_left : length s ≤ at → LengthAt s at (read_length (drop at s)) (Err X.End)
   unfolding read_length
   none_left h = record { is = rw (drop_of_length-le s h); ahead = tt }
 
-  pub cut_second : (low : ℕ) → length s ≤ at → LengthAt s at (second_group low (drop at s)) (Err L.Cut)
+  pub cut_second : (low : ℕ) → length s ≤ at → LengthAt s at (second_group low (drop at s)) (Err X.Torn)
   unfolding second_group
   cut_second low h = record { is = rw (drop_of_length-le s h); ahead = tt }
 
@@ -28,7 +28,7 @@ module _ (s : List ℕ) (at b : ℕ) (h : at < length s) (e : b ≡ get_or s at 
   here : drop at s ≡ b ∷ drop (at + 1) s
   here = rw (e, add-one at, drop-cons s at 0 h)
 
-  pub zero_length : b ≡ 0 → LengthAt s at (read_length (drop at s)) (Err L.Bad)
+  pub zero_length : b ≡ 0 → LengthAt s at (read_length (drop at s)) (Err X.Bad)
   unfolding read_length
   zero_length z = record { is = sym (ap read_length here ∙ rw (lt-ltb b 128 (omega (arith, z)), eq-eqb b 0 z)); ahead = tt }
 
@@ -40,7 +40,7 @@ module _ (s : List ℕ) (at b : ℕ) (h : at < length s) (e : b ≡ get_or s at 
   }
 
   -- the second group's place is after the first's
-  pub long_length : 128 ≤ b → (r : Result (ℕ × ℕ) NoLength) → LengthAt s (at + 1) (second_group (b - 128) (drop (at + 1) s)) r
+  pub long_length : 128 ≤ b → (r : Result (ℕ × ℕ) NoBatch) → LengthAt s (at + 1) (second_group (b - 128) (drop (at + 1) s)) r
       → LengthAt s at (read_length (drop at s)) r
   unfolding read_length
   long_length l (Ok found) a = record {
@@ -50,15 +50,15 @@ module _ (s : List ℕ) (at b : ℕ) (h : at < length s) (e : b ≡ get_or s at 
   long_length l (Err why) a = record { is = a.is ∙ sym (ap read_length here ∙ rw (le-ltb b 128 l)); ahead = tt }
 
   module _ (low : ℕ) where
-    pub third_group : 128 ≤ b → LengthAt s at (second_group low (drop at s)) (Err L.Bad)
+    pub third_group : 128 ≤ b → LengthAt s at (second_group low (drop at s)) (Err X.Bad)
     unfolding second_group
     third_group l = record { is = sym (ap (second_group low) here ∙ rw (le-leb 128 b l)); ahead = tt }
 
-    pub for_nothing : b ≡ 0 → LengthAt s at (second_group low (drop at s)) (Err L.Bad)
+    pub for_nothing : b ≡ 0 → LengthAt s at (second_group low (drop at s)) (Err X.Bad)
     unfolding second_group
     for_nothing z = record { is = sym (ap (second_group low) here ∙ rw (lt-leb 128 b (omega (arith, z)), eq-eqb b 0 z)); ahead = tt }
 
-    pub too_long : b < 128 → (b ≡ 0 → ⊥) → batch_limit < b * 128 + low → LengthAt s at (second_group low (drop at s)) (Err L.Bad)
+    pub too_long : b < 128 → (b ≡ 0 → ⊥) → batch_limit < b * 128 + low → LengthAt s at (second_group low (drop at s)) (Err X.Bad)
     unfolding second_group
     too_long l z k = record {
       is = sym (ap (second_group low) here ∙ rw (lt-leb 128 b l, ne_eqb b 0 z, lt-ltb batch_limit (b * 128 + low) k));

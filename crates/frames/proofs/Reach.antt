@@ -8,18 +8,17 @@ use lib.Seq.{drop-drop}
 use borrow.Author.Tests.{lt-ltb, le-ltb}
 use Rattle.rules.specs.Journal.{LengthRead, after_length, read_length}
 use Rattle.std.specs.Prelude.{Ok, Err}
-use Rattle.frames.specs.Forms.{LengthAt, ExtentAt, without}
-use Rattle.frames.specs.declared.NoLength.{NoLength}
-use Rattle.frames.specs.declared.NoLength.TheVariants as L
+use Rattle.frames.specs.Forms.{LengthAt, ExtentAt}
+use Rattle.frames.specs.declared.NoBatch.{NoBatch}
 use Rattle.frames.specs.declared.NoBatch.TheVariants as X
 
 module _ {s : List ℕ} {at : ℕ} where
   -- without a length
-  pub no_batch : (why : NoLength) → LengthAt s at (read_length (drop at s)) (Err why) → ExtentAt s at (Err (without why))
+  pub no_batch : (why : NoBatch) → LengthAt s at (read_length (drop at s)) (Err why) → ExtentAt s at (Err why)
   unfolding after_length
-  no_batch L.End a = record { is = λ t g more. ap (λ (x : LengthRead). after_length x t at g more) a.is; within = tt }
-  no_batch L.Cut a = record { is = λ t g more. ap (λ (x : LengthRead). after_length x t at g more) a.is; within = tt }
-  no_batch L.Bad a = record { is = λ t g more. ap (λ (x : LengthRead). after_length x t at g more) a.is; within = tt }
+  no_batch X.End a = record { is = λ t g more. ap (λ (x : LengthRead). after_length x t at g more) a.is; within = tt }
+  no_batch X.Torn a = record { is = λ t g more. ap (λ (x : LengthRead). after_length x t at g more) a.is; within = tt }
+  no_batch X.Bad a = record { is = λ t g more. ap (λ (x : LengthRead). after_length x t at g more) a.is; within = tt }
 
   module _ {n start : ℕ} (a : LengthAt s at (read_length (drop at s)) (Ok (n, start))) where
     pub torn : length s - start < n → ExtentAt s at (Err X.Torn)

@@ -6,8 +6,6 @@ use Rattle.rules.specs.Journal as J
 use Rattle.rules.specs.Batches.{read_batch}
 use Rattle.frames.specs.declared.NoHeading.{NoHeading}
 use Rattle.frames.specs.declared.NoHeading.TheVariants as H
-use Rattle.frames.specs.declared.NoLength.{NoLength}
-use Rattle.frames.specs.declared.NoLength.TheVariants as L
 use Rattle.frames.specs.declared.NoBatch.{NoBatch}
 use Rattle.frames.specs.declared.NoBatch.TheVariants as X
 use Rattle.frames.specs.declared.Damage.{Damage}
@@ -33,26 +31,20 @@ damage_of H.Wrong = D.RefusedAt 0
 damage_of H.Cut = D.TornFrom 0
 
 -- a length, and the place after it
-abbrev pub length_as : Result (ℕ × ℕ) NoLength → List ℕ → J.LengthRead
+abbrev pub length_as : Result (ℕ × ℕ) NoBatch → List ℕ → J.LengthRead
 length_as (Ok found) s = J.batch_of found.0 (drop found.1 s)
-length_as (Err L.End) s = J.no_length
-length_as (Err L.Cut) s = J.cut_length
-length_as (Err L.Bad) s = J.bad_length
+length_as (Err X.End) s = J.no_length
+length_as (Err X.Torn) s = J.cut_length
+length_as (Err X.Bad) s = J.bad_length
 
 -- the place after the length is past its own and one of the bytes or their end; a batch is no longer than any that is written
-abbrev pub Ahead : ℕ → ℕ → Result (ℕ × ℕ) NoLength → Type 0
+abbrev pub Ahead : ℕ → ℕ → Result (ℕ × ℕ) NoBatch → Type 0
 Ahead at end (Ok found) = (at < found.1) × (found.1 ≤ end) × (found.0 ≤ batch_limit)
 Ahead at end (Err why) = Unit {0}
 
-pub record LengthAt (s : List ℕ) (at : ℕ) (spec : J.LengthRead) (r : Result (ℕ × ℕ) NoLength) : Type 0 where
+pub record LengthAt (s : List ℕ) (at : ℕ) (spec : J.LengthRead) (r : Result (ℕ × ℕ) NoBatch) : Type 0 where
   pub is : length_as r s ≡ spec
   pub ahead : Ahead at (length s) r
-
--- without a length there is no batch
-abbrev pub without : NoLength → NoBatch
-without L.End = X.End
-without L.Cut = X.Torn
-without L.Bad = X.Bad
 
 -- what a reading makes of what stands where a length would: a batch from its first byte to the place after it, or none
 abbrev pub extended : Result (ℕ × ℕ) NoBatch → List ℕ → ℕ → ℕ → Group → (Group → List ℕ → J.Reading) → J.Reading

@@ -21,15 +21,7 @@ pub enum NoHeading {
     Cut,
 }
 
-// No length of a batch: the end of the file, its end inside the length, or something else.
-#[derive(Clone, Copy, Debug, PartialEq, Eq)]
-pub enum NoLength {
-    End,
-    Cut,
-    Bad,
-}
-
-// No batch: the end of the file, its end inside the length or the batch, or no length.
+// No batch, or no length of one: the end of the file, its end inside the length or the batch, or something else than a length.
 #[derive(Clone, Copy, Debug, PartialEq, Eq)]
 pub enum NoBatch {
     End,

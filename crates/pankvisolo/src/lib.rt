@@ -135,7 +135,7 @@ pub fn pankvisolo_install(
 pub fn pankvisolo_range_target(group: &Group, entries: &mut [u8; SLOTS])
     ensures { entries.new ≡ range_target (view group.now) }
 {
-    assignor::range_target(group, entries)
+    assignor::range_target(&group.members, &group.topics, entries)
 }
 
 // Reads a journal at a tick into the group, whatever that held. What holds of every reading is `JournalTheorems`; and brokers that run on this library, one after

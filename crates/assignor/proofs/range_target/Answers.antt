@@ -1,5 +1,4 @@
 -- The places are sorted by the IDs of the columns, and the subscriptions and the counts are the group's: so what is written is the rules' target (`all_are`).
--- Assumes nothing.
 use native.Mathlib.Omega.{arith}
 use mathlib.Core.Path.{◌∙◌}
 use Rattle.rules.specs.Constants.{max_members}
@@ -12,6 +11,8 @@ put_topics-requires c = (rw c.sorted-order.ensures (sorted_places _ 0 max_member
 
 pub returns : goal.returns
 returns c =
+    let a = c.args in
     let k = c.of-keys in
+    λ g ids topics members.
     rw (c.sorted-order.ensures, c.subscriptions-subscriptions.ensures) at c.put_topics.ensures
-    ∙ all_are c.args.group.now k.result.high k.result.low k.ensures.0 k.ensures.1
+    ∙ all_are g ids a.topics.now.counts topics a.members.now.cells members k.result k.ensures
