@@ -66,17 +66,8 @@ impl Members {
     pub fn is_due(&self, p: Place, revokes: bool, tick: u32) -> bool
         ensures { result ≡ due tick revokes (slice_index_or (view_members self.now.cells) p.0 none) }
     {
-        let heard = self.number_at(HEARD, p);
-        if SESSION_TIMEOUT <= ticks::elapsed(tick, heard) {
-            return !self.is_vacant(p);
-        }
-        if !revokes {
-            return false;
-        }
-        let revoked_at = self.number_at(REVOKED_AT, p);
-        if self.timeout_at(p) <= ticks::elapsed(tick, revoked_at) {
-            return !self.is_vacant(p);
-        }
-        false
+        let late = SESSION_TIMEOUT <= ticks::elapsed(tick, self.number_at(HEARD, p))
+            || revokes && self.timeout_at(p) <= ticks::elapsed(tick, self.number_at(REVOKED_AT, p));
+        late && !self.is_vacant(p)
     }
 }

@@ -46,6 +46,7 @@ impl Words {
 }
 
 // How often a word stands among a step's entries.
+// As it is: `filter` and `count` sum in 64 bits, by 32 instructions where this takes 16.
 fn count_words(ids: &[u32; CELLS], from: usize, a: u32) -> u32
     requires { from + step ≤ cell_count }
     ensures { result ≡ count_by (λ x. eqb x a) (slice_range ids.now from (from + step)) }

@@ -1,8 +1,8 @@
 -- The marks of the places with slots to give back, and what the marks of the places that are due say of a sweep.
 use Rattle.std.specs.Prelude.{if◌then◌else◌}
-use Rattle.std.specs.List.{list_any}
+use Rattle.std.specs.List.{list_any, fold}
 use Rattle.std.proofs.Common.{ℕ, ◌+◌, ◌≤◌, ◌<◌, arith, ◌≡◌, refl, sym, ap, ◌∙◌, Bool, true, false, not, ◌&&◌, ◌||◌, List, [], ◌∷◌, eqb, leb, length, get_or, set, take, ne_eqb}
-use mathlib.Core.Bool.{and-true, and-false, or-false}
+use mathlib.Core.Bool.{and-true, and-false, or-false, or_assoc}
 use mathlib.Core.Option.{Option, none, some}
 use Rattle.std.proofs.lemmas.List.Folds.{list_any_more}
 use Rattle.rules.specs.Basics.{any}
@@ -57,6 +57,11 @@ module _ (t : Tables) (nt : length t.target ≡ slot_count) (nh : length t.holde
 
       pub mark_past : max_members ≤ get_or t.holder i 0 → Marked (slots_in t) marks (i + 1)
       mark_past q = passed (λ p r. here p ∙ ne_eqb (get_or t.holder i 0) p (λ x. omega (arith, x)))
+
+-- some slot waits, of those that the sum has and of a list
+pub any_waiting : (b : Bool) (ws : List Bool) → fold ◌||◌ b ws ≡ (b || list_any (λ w. w) ws)
+any_waiting b [] = sym (or-false b)
+any_waiting b (w ∷ ws) = any_waiting (b || w) ws ∙ or_assoc b w (list_any (λ x. x) ws)
 
 -- where no slot waits, no place has a slot to give back
 pub none_revoking : (ts hs : List ℕ) (ws : List Bool) → list_any (λ w. w) ws ≡ false → (p : ℕ) → any (revoking p) (view_lists ts hs ws) ≡ false

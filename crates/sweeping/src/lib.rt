@@ -21,6 +21,7 @@ use rules::{Answer, MEMBERS, Refusal};
 use storing::SweepBatch;
 
 // How many places are marked. The sum is a byte, so that the loop is vectorised by bytes.
+// As it is: `filter` and `count` sum in 64 bits, by 39 instructions where this takes 9.
 fn count_marks(gone: &[bool; MEMBERS]) -> u32
     ensures { result ≡ length (marked gone.now) }
 {

@@ -19,11 +19,7 @@ use tables::Tables;
 fn any_waits(waiting: &[bool; SLOTS]) -> bool
     ensures { result ≡ list_any (λ w. w) waiting.now }
 {
-    let mut some = false;
-    for waits in waiting {
-        some |= *waits;
-    }
-    some
+    waiting.iter().fold(false, |some, waits| some | *waits)
 }
 
 // The places that hold some slot which they are to give back, slot by slot.

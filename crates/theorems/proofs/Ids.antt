@@ -5,9 +5,9 @@ use native.Mathlib.Omega.{arith}
 use mathlib.Core.Path.{◌≡◌, refl, sym, ap, ◌∙◌}
 use mathlib.Core.Logic.{◌≢◌}
 use mathlib.Core.Bool.{true, false}
-use mathlib.Core.List.{List, [], map}
+use mathlib.Core.List.{List, []}
 use mathlib.Core.Option.{Option, none, some}
-use lib.ListN.{length, get_or, set, replicate, length-map, length-set}
+use lib.ListN.{length, get_or, set, replicate, length-set}
 use lib.Seq.{get_or-set_other, get_or-set_same}
 use borrow.Author.Tests.{le-leb, le-ltb, lt-leb, ne_eqb}
 use Rattle.rules.specs.Basics.{any, same}
@@ -20,16 +20,15 @@ use Rattle.rules.specs.Effects.{changed, effect, heartbeat_effect, install_effec
 use Rattle.rules.specs.Step.{too_little_room, verdict}
 use Rattle.rules.specs.Course.{Typed}
 use Rattle.rules.specs.Ledger.{Ledger, empty_ledger, reckon}
-use Rattle.rules.specs.Batches.{retimed, retimed_member}
+use Rattle.rules.specs.Batches.{retimed}
 use Rattle.rules.specs.Accepted.{Accepted, Sized}
 use Rattle.rules.specs.Theorems.{MemberIds, Reached, SameCountAccepted, TopicIds}
 use Rattle.rules.proofs.Lists.{any_at, or_false, same_eq, same_ne, same_refl}
 use Rattle.theorems.proofs.Cases.{eq_cases, never, some_inj}
 use Rattle.theorems.proofs.Picks.{Each, any_none_at, each_absent, each_put, none_set, some_lt}
-use Rattle.theorems.proofs.Retimed.{get_d_retimed}
 use Rattle.theorems.proofs.Accepting.{AllFalse, accepts}
 use Rattle.theorems.proofs.Reaching.{members_have, reached_has}
-use Rattle.theorems.proofs.SingleHolder.{InvG, accepted, fresh_inv, id_in, id_of, member_id, seen_if}
+use Rattle.theorems.proofs.SingleHolder.{InvG, accepted, fresh_inv, member_id, retimed_inv, seen_if}
 use Rattle.theorems.proofs.Legible.{legible_reached}
 use Rattle.theorems.proofs.Untouched.{good_topic, no_change, same_count}
 
@@ -45,29 +44,12 @@ well_formed : (b : Request) → malformed b ≡ false → zero_id b.id ≡ false
 unfolding malformed
 well_formed b e = (or_false (zero_id b.id) _ e).0
 
-id_timed : (t : ℕ) (o : Option Member) → id_of (retimed_member t o) ≡ id_of o
-unfolding retimed_member
-id_timed t none = refl
-id_timed t (some m) = refl
-
 -- a ledger that names the members
-inv_retimed : (l : Ledger) (t : ℕ) (g : Group) → InvG l g → InvG l (retimed t g)
-unfolding id_in retimed
-inv_retimed l t g v = record {
-  sized = length-map g.members (retimed_member t) ∙ v.sized;
-  names = λ p. v.names p ∙ sym (id_retimed p);
-  distinct = λ p q i a b. v.distinct p q i (sym (id_retimed p) ∙ a) (sym (id_retimed q) ∙ b);
-  holds = λ i s h. id_retimed _ ∙ v.holds i s h;
-}
-  where
-    id_retimed : (p : ℕ) → id_in (map (retimed_member t) g.members) p ≡ id_in g.members p
-    id_retimed p = ap id_of (get_d_retimed t g.members p) ∙ id_timed t (get_or g.members p none)
-
 reached_ledger : (g : Group) → Reached g → (l : Ledger) × InvG l g
 reached_ledger =
     reached_has (λ g. (l : Ledger) × InvG l g) (λ tick. (empty_ledger, fresh_inv tick))
     (λ g e typed h rows. (reckon h.0 (seen_if e (effect g e) [] []), accepted h.0 g e [] [] typed h.1 rows))
-    (λ t g h. (h.0, inv_retimed h.0 t g h.1))
+    (λ t g h. (h.0, retimed_inv t h.0 g h.1))
 
 pub member_ids : (g : Group) → Reached g → MemberIds g
 unfolding heartbeat_table joiner member_after
