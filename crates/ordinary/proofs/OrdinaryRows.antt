@@ -1,13 +1,9 @@
 -- The rows of an ordinary heartbeat by the tests that the code makes, one law for each row, in nested modules that carry the rows before it; and a plan
 -- carried out, which is the effect that the rules give. Assumes nothing.
 use Rattle.std.specs.Prelude.{if◌then◌else◌}
-use Prim.Native.Nat.{ℕ, suc}
-use mathlib.Core.Path.{◌≡◌, refl, sym, ap, ◌∙◌}
-use mathlib.Core.Bool.{Bool, true, false, ◌&&◌, ◌||◌, or_assoc}
-use mathlib.Core.List.{List, []}
-use mathlib.Core.Option.{some}
-use lib.Dec.{eqb, leb}
-use lib.ListN.{length, set}
+use Rattle.std.proofs.Common.{◌≡◌, ℕ, suc, Bool, true, false, ◌&&◌, ◌||◌, List, [], length, set, eqb, leb, refl, sym, ap, ◌∙◌}
+use mathlib.Core.Bool.{or_assoc}
+use Rattle.std.proofs.Math.Option.{some}
 use Rattle.rules.specs.Basics.{any, default}
 use Rattle.rules.specs.Constants.{last_epoch, heartbeat_interval}
 use Rattle.rules.specs.Group as G

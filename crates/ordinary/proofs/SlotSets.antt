@@ -1,11 +1,5 @@
 -- A pick over the slots is a set of slots, so that a list which is A of a place is no bad one. Assumes nothing.
-use Prim.Native.Nat.{ℕ, suc, ◌+◌, ◌≤◌}
-use native.Mathlib.Omega.{arith}
-use mathlib.Core.Path.{◌≡◌, refl, sym, ap, ◌∙◌}
-use mathlib.Core.Bool.{Bool, true, false, not, ◌&&◌}
-use mathlib.Core.List.{List, [], ◌∷◌}
-use lib.Dec.{ltb}
-use lib.ListN.{length}
+use Rattle.std.proofs.Common.{◌≡◌, ℕ, suc, ◌+◌, ◌≤◌, Bool, true, false, not, ◌&&◌, List, [], ◌∷◌, length, ltb, refl, sym, ap, ◌∙◌, arith}
 use Rattle.rules.specs.Basics.{all, indices, rising}
 use Rattle.rules.specs.Constants.{slot_count}
 use Rattle.rules.specs.Group.{SlotState, assigned, set_a}

@@ -1,12 +1,6 @@
 -- The step of a heartbeat that changes nothing but the two ticks: the answer has the list, and nothing is stored. Assumes nothing.
-use Prim.Native.Nat.{ℕ, ◌≤◌}
-use native.Mathlib.Omega.{arith}
-use mathlib.Core.Path.{◌≡◌, refl, ap, ◌∙◌}
-use mathlib.Core.Bool.{false}
-use mathlib.Core.List.{List, []}
-use mathlib.Core.Option.{Option, some}
-use lib.ListN.{length, set}
-use borrow.Author.Tests.{eq-eqb, le-ltb}
+use Rattle.std.proofs.Common.{◌≡◌, ℕ, ◌≤◌, false, List, [], length, set, refl, ap, ◌∙◌, arith, eq-eqb, le-ltb}
+use Rattle.std.proofs.Math.Option.{Option, some}
 use Rattle.rules.specs.Basics.{any, default}
 use Rattle.rules.specs.Constants.{heartbeat_interval}
 use Rattle.rules.specs.Group.{Member, Sender, Group, set_a, set_p}

@@ -2,13 +2,9 @@
 -- sets that were gathered. Of any other P is empty or freed; where slots are revoked both sets are those of the step, and where none are P stays empty
 -- (`Freeing`). Assumes nothing.
 use Rattle.std.specs.Prelude.{if◌then◌else◌}
-use Prim.Native.Nat.{ℕ, max}
-use mathlib.Core.Path.{◌≡◌, refl, sym, ap, ◌∙◌}
-use mathlib.Core.Bool.{Bool, true, false, not, ◌&&◌, ◌||◌, true≢false}
-use mathlib.Core.List.{List, []}
-use mathlib.Core.Option.{Option}
-use lib.Dec.{eqb}
-use lib.ListN.{length, get_or-replicate}
+use Rattle.std.proofs.Common.{◌≡◌, ℕ, max, Bool, true, false, not, ◌&&◌, ◌||◌, List, [], length, eqb, refl, sym, ap, ◌∙◌, true≢false}
+use Rattle.std.proofs.Math.Option.{Option}
+use lib.ListN.{get_or-replicate}
 use Rattle.rules.specs.Constants.{slot_count}
 use Rattle.rules.specs.Event as E
 use Rattle.rules.specs.Group as G

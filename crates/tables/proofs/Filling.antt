@@ -1,19 +1,13 @@
 -- The four sets of a place filled together, slot by slot; slots that are not near the place are stepped over.
-use mathlib.Core.Path.{◌≡◌, refl, sym, ap, ◌∙◌}
-use mathlib.Core.Bool.{Bool, false, not, ◌&&◌, ◌||◌}
-use mathlib.Core.List.{List}
-use Rattle.std.specs.Prelude.{Option, None, Some, IfSome}
-use Prim.Native.Nat.{ℕ, ◌+◌, ◌/◌, ◌%◌, ◌≤◌, ◌<◌}
-use native.Mathlib.Omega.{arith}
-use lib.Dec.{eqb}
-use lib.ListN.{length, get_or, set, replicate, get_or-replicate, length-set}
+use Rattle.std.proofs.Common.{◌≡◌, ℕ, ◌+◌, ◌/◌, ◌%◌, ◌≤◌, ◌<◌, Bool, false, not, ◌&&◌, ◌||◌, List, length, get_or, set, replicate, eqb, refl, sym, ap, ◌∙◌, arith, length-set}
+use lib.ListN.{get_or-replicate}
 use Rattle.rules.specs.Constants.{slot_count, no_place}
 use Rattle.rules.specs.Group.{SlotState, free_slot, assigned, revoking, targeted}
 use Rattle.slots.specs.Set.{bit, has, word_count}
 use Rattle.slots.proofs.Words.{has_mark, has_none}
 use Rattle.slots.proofs.Gathering.{Gather, gather_none, gather_more, gather_skip}
 use Rattle.tables.specs.View.{slots_in, slot_at, Whole}
-use Rattle.tables.specs.Places.{NoneNear, NextNear, claimable}
+use Rattle.tables.specs.Places.{NoneNear, claimable}
 use Rattle.tables.specs.Gathers.{Gathers}
 use Rattle.tables.specs.declared.Tables.{Tables}
 use Rattle.tables.proofs.Nearness.{far_a, far_q, far_m, far_c}

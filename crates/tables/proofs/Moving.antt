@@ -1,12 +1,7 @@
 -- Steps 2 and 3 as one change of each slot (`advanced_moved`), where A or P changed.
 use Rattle.std.specs.Prelude.{if◌then◌else◌}
-use Prim.Native.Nat.{ℕ}
-use native.Mathlib.Omega.{arith}
-use mathlib.Core.Path.{◌≡◌, refl, sym, ap, ◌∙◌}
-use mathlib.Core.Bool.{Bool, true, false, not, ◌&&◌}
-use mathlib.Core.List.{List, map}
-use mathlib.Core.Option.{Option}
-use Rattle.std.proofs.lemmas.Grind.{common_steps}
+use Rattle.std.proofs.Common.{◌≡◌, ℕ, Bool, true, false, not, ◌&&◌, List, map, refl, sym, ap, ◌∙◌}
+use Rattle.std.proofs.Math.Option.{Option}
 use Rattle.rules.specs.Group.{SlotState}
 use Rattle.rules.specs.Effects.{waits, strays, advanced, frees, freed, after_free, revoked, claimed}
 use Rattle.tables.specs.Advances.{frees_in, revokes_in, moves_in, Advances}

@@ -1,6 +1,6 @@
 -- A walk over the slots near a place: what the search for the next one tells of those that are still to come (`over`, `gives`).
 use Rattle.std.specs.Prelude.{None, Some}
-use Rattle.std.proofs.Common.{◌≡◌, ℕ, ◌+◌, ◌≤◌, List, [], ◌∷◌, ◌∙◌, arith}
+use Rattle.std.proofs.Common.{◌≡◌, ℕ, ◌+◌, ◌≤◌, [], ◌∷◌, ◌∙◌, arith}
 use Rattle.rules.specs.Constants.{slot_count}
 use Rattle.slots.proofs.Selecting.{select_in, select_none, select_skip}
 use Rattle.tables.specs.View.{slot_at}

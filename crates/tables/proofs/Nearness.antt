@@ -1,8 +1,5 @@
 -- A slot that is not near a place is in none of its sets; and the slots passed by a search that are not near it.
-use native.Mathlib.Omega.{arith}
-use mathlib.Core.Path.{◌≡◌}
-use mathlib.Core.Bool.{Bool, false}
-use Prim.Native.Nat.{ℕ, ◌+◌, ◌≤◌, ◌<◌}
+use Rattle.std.proofs.Common.{◌≡◌, ℕ, ◌+◌, ◌≤◌, ◌<◌, Bool, false, arith}
 use Rattle.std.proofs.lemmas.Grind.{common_steps}
 use Rattle.rules.specs.Group.{SlotState, assigned, revoking, targeted}
 use Rattle.slots.proofs.Next.{none_one, none_join}

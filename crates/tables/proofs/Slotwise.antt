@@ -1,10 +1,6 @@
 -- Steps 2 and 3 for one slot x of a place p below 255, by the place's tests of x alone. A slot of P is freed, or there is none (`z`).
 use Rattle.std.specs.Prelude.{if◌then◌else◌}
-use Prim.Native.Nat.{ℕ}
-use native.Mathlib.Omega.{arith}
-use mathlib.Core.Path.{◌≡◌}
-use mathlib.Core.Bool.{Bool, true, false, not, ◌&&◌, ◌||◌}
-use lib.Dec.{eqb}
+use Rattle.std.proofs.Common.{◌≡◌, ℕ, Bool, true, false, not, ◌&&◌, ◌||◌, eqb, arith}
 use Rattle.std.proofs.lemmas.Grind.{common_steps}
 use Rattle.rules.specs.Constants.{no_place}
 use Rattle.rules.specs.Group.{SlotState, assigned, revoking, targeted}

@@ -1,16 +1,12 @@
 -- Steps 2 and 3 on the sets that were gathered for a place below 255 are those of the rules (`advances`): the tests on the sets are those of the rules
 -- (`frees_so`, `waits_so`, `strays_so`), and each slot of the sets is what `Slotwise` says of it.
 use Rattle.std.specs.Prelude.{if◌then◌else◌}
-use Prim.Native.Nat.{ℕ, ◌<◌}
+use Rattle.std.proofs.Common.{◌≡◌, ℕ, ◌<◌, Bool, true, false, not, ◌&&◌, ◌||◌, List, map, length, get_or, eqb, refl, sym, ap, ap₂, ◌∙◌, arith, true≢false, eq-eqb, ne_eqb}
 use native.Mathlib.Decide.{dec_lt}
-use native.Mathlib.Omega.{arith}
-use mathlib.Core.Path.{◌≡◌, refl, sym, ap, ap₂, ◌∙◌}
-use mathlib.Core.Bool.{Bool, true, false, not, ◌&&◌, ◌||◌, and-false, or-true, true≢false}
-use mathlib.Core.List.{List, map}
-use mathlib.Core.Option.{Option, none, some}
-use lib.Dec.{eqb}
-use lib.ListN.{length, get_or, length-map, get_or-eq_default}
-use borrow.Author.Tests.{eq-eqb, ne_eqb, not-true}
+use mathlib.Core.Bool.{and-false, or-true}
+use Rattle.std.proofs.Math.Option.{Option, none, some}
+use lib.ListN.{length-map, get_or-eq_default}
+use borrow.Author.Tests.{not-true}
 use Rattle.std.proofs.lemmas.List.{get_or-map}
 use Rattle.std.proofs.lemmas.Grind.{common_steps}
 use Rattle.rules.specs.Basics.{any, same}

@@ -1,12 +1,8 @@
 -- The three tables seen as one list of slots: its length, the slot at an index, another target, and the tables of a fresh group.
-use Prim.Native.Nat.{ℕ, zero, suc, ◌<◌}
-use native.Mathlib.Nat.{le_of_suc-le-suc, not-suc-le-zero, suc_inj}
+use Rattle.std.proofs.Common.{◌≡◌, ℕ, zero, suc, ◌<◌, Bool, false, List, [], ◌∷◌, length, get_or, replicate, refl, sym, ap, ◌∙◌, arith, le_of_suc-le-suc, not-suc-le-zero}
+use native.Mathlib.Nat.{suc_inj}
 use native.Mathlib.Decide.{dec_lt}
-use native.Mathlib.Omega.{arith}
-use mathlib.Core.Path.{◌≡◌, refl, sym, ap, ◌∙◌}
-use mathlib.Core.Bool.{Bool, false}
-use mathlib.Core.List.{List, [], ◌∷◌}
-use lib.ListN.{length, get_or, replicate, get_or-eq_default}
+use lib.ListN.{get_or-eq_default}
 use Rattle.std.proofs.lemmas.List.{get_or_default}
 use Rattle.rules.specs.Constants.{slot_count, no_place}
 use Rattle.rules.specs.Group.{SlotState, free_slot, fresh}

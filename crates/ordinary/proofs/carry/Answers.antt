@@ -1,6 +1,6 @@
 -- The count and the store decide whether there is room; otherwise each part of the outcome is that of the plan's effect (`Carrying`). Assumes nothing.
 use Rattle.std.specs.Prelude.{set}
-use Rattle.std.proofs.Common.{◌≡◌, ℕ, ◌<◌, ◌≤◌, List, length, refl, ap, ◌∙◌, arith, lt-ltb, ltb}
+use Rattle.std.proofs.Common.{◌≡◌, ℕ, ◌≤◌, ◌<◌, List, length, ltb, refl, ap, ◌∙◌, arith, lt-ltb}
 use Rattle.std.proofs.Math.Option.{some}
 use Rattle.rules.specs.Constants.{heartbeat_interval}
 use Rattle.rules.specs.Group as G

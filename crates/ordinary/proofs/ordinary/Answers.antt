@@ -1,8 +1,7 @@
 -- At each `return` the tests that led there say that no row before it applies and that this one does (`OrdinaryRows`); the quick path's step is `Staying`. Assumes nothing.
 use Rattle.std.specs.Prelude.{if◌then◌else◌}
-use Rattle.std.proofs.Common.{◌≡◌, ℕ, Bool, List, [], length, eqb, leb, sym, ap, ◌∙◌, arith}
+use Rattle.std.proofs.Common.{◌≡◌, ℕ, Bool, List, [], length, eqb, leb, sym, ap, ◌∙◌, arith, eq-eqb, ne_eqb}
 use Rattle.std.proofs.Math.Option.{Option, some}
-use borrow.Author.Tests.{eq-eqb, ne_eqb}
 use Rattle.rules.specs.Basics.{default}
 use Rattle.rules.specs.Constants.{heartbeat_interval, clock_limit}
 use Rattle.rules.specs.Group.{elapsed}

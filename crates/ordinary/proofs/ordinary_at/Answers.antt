@@ -1,6 +1,6 @@
 -- The plan is the rules', so that its effect is; row 1002 is tried on what it raises. Assumes nothing.
 use Rattle.std.specs.Prelude.{Some, [], List}
-use Rattle.std.proofs.Common.{◌≡◌, ℕ, Bool, false, sym, ap, ◌∙◌, subst}
+use Rattle.std.proofs.Common.{◌≡◌, ℕ, Bool, false, sym, ap, subst, ◌∙◌}
 use Rattle.std.proofs.Math.Option.{Option}
 use Rattle.rules.specs.Basics.{any, default}
 use Rattle.rules.specs.Group.{Member}

@@ -1,4 +1,4 @@
-use native.Mathlib.Omega.{arith}
+use Rattle.std.proofs.Common.{arith}
 use Rattle.search.proofs.SlotSets.{slot_below}
 use Rattle.quiet.proofs.all_settled.Goals as goal
 

@@ -1,8 +1,5 @@
 -- Where all were settled so far, each slot passed is. The list is a set of slots, so that its entries are in reach of the tables.
-use Prim.Native.Nat.{ℕ, ◌<◌}
-use mathlib.Core.Path.{◌≡◌}
-use mathlib.Core.Bool.{true}
-use lib.ListN.{get_or}
+use Rattle.std.proofs.Common.{◌≡◌, ℕ, ◌<◌, true, get_or}
 use Rattle.tables.specs.View.{slot_at}
 use Rattle.quiet.specs.Settling.{settled}
 use Rattle.quiet.proofs.all_settled.Given as goal

@@ -1,5 +1,4 @@
-use native.Mathlib.Omega.{arith}
-use mathlib.Core.Path.{sym}
+use Rattle.std.proofs.Common.{sym, arith}
 use Rattle.quiet.proofs.Counting.{nothing}
 use Rattle.quiet.proofs.count.Goals as goal
 

@@ -1,6 +1,5 @@
 -- A part at a time.
-use Prim.Native.Nat.{◌*◌, ◌≤◌, ◌<◌}
-use mathlib.Core.Path.{◌≡◌}
+use Rattle.std.proofs.Common.{◌≡◌, ◌*◌, ◌≤◌, ◌<◌}
 use Rattle.tables.specs.View.{Whole}
 use Rattle.quiet.specs.Settling.{part_length, near_count}
 use Rattle.quiet.proofs.count.Given as goal

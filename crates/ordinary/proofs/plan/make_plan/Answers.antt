@@ -1,5 +1,5 @@
 -- The sets that were gathered and the step taken on them make the plan of the rules (`Stepping`). Assumes nothing.
-use Rattle.std.proofs.Common.{◌≡◌, Bool, not, ◌||◌, eqb, length, refl, ap, arith, rules}
+use Rattle.std.proofs.Common.{◌≡◌, Bool, not, ◌||◌, length, eqb, refl, ap, arith, rules}
 use Rattle.slots.specs.Set.{word_count}
 use Rattle.tables.specs.Advances.{listed}
 use Rattle.tables.specs.View.{slots_in}

@@ -1,6 +1,5 @@
 -- Below i each slot is changed, and from i on none is.
-use Prim.Native.Nat.{ℕ, ◌≤◌, ◌<◌}
-use mathlib.Core.Path.{◌≡◌}
+use Rattle.std.proofs.Common.{◌≡◌, ℕ, ◌≤◌, ◌<◌}
 use Rattle.tables.specs.View.{Whole}
 use Rattle.tables.specs.Changes.{entry_of}
 use Rattle.tables.proofs.Tables.change_each.Given as goal

@@ -1,4 +1,4 @@
-use Rattle.std.proofs.Common.{◌≡◌, ◌∷◌, ◌+◌, ◌<◌, ap, sym, ◌∙◌, arith, rules}
+use Rattle.std.proofs.Common.{◌+◌, sym, ap, ◌∙◌, arith, rules}
 use Rattle.rules.specs.Constants.{slot_count}
 use Rattle.slots.proofs.Turns.{turn, over}
 use Rattle.tables.specs.Walk.{rest}

@@ -1,5 +1,4 @@
-use borrow.Author.Rules.{rules}
-use mathlib.Core.Path.{◌∙◌}
+use Rattle.std.proofs.Common.{◌∙◌, rules}
 use Rattle.tables.proofs.Telling.{target_told}
 use Rattle.tables.proofs.Tables.has_target.Goals as goal
 

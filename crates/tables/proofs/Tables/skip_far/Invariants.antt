@@ -1,5 +1,5 @@
 -- None of the slots passed is near p, eight at a time.
-use Prim.Native.Nat.{◌-◌, ◌≤◌}
+use Rattle.std.proofs.Common.{◌-◌, ◌≤◌}
 use Rattle.rules.specs.Constants.{slot_count}
 use Rattle.tables.specs.Places.{NoneNear}
 use Rattle.tables.proofs.Tables.skip_far.Given as goal

@@ -1,6 +1,4 @@
-use native.Mathlib.Omega.{arith}
-use mathlib.Core.Path.{sym, ◌∙◌}
-use Prim.Native.Nat.{◌+◌}
+use Rattle.std.proofs.Common.{◌+◌, sym, ◌∙◌, arith}
 use Rattle.rules.proofs.Lists.{or_false}
 use Rattle.tables.specs.View.{slot_at}
 use Rattle.tables.specs.Places.{near}

@@ -1,7 +1,5 @@
 -- What was found, or nothing that was passed, is near p.
-use Prim.Native.Nat.{◌+◌}
-use mathlib.Core.Path.{◌≡◌}
-use mathlib.Core.Bool.{false}
+use Rattle.std.proofs.Common.{◌≡◌, ◌+◌, false}
 use Rattle.tables.specs.Places.{NoneNear}
 use Rattle.tables.proofs.Tables.some_near.Given as goal
 

@@ -1,4 +1,4 @@
-use borrow.Author.Rules.{rules}
+use Rattle.std.proofs.Common.{rules}
 use Rattle.rules.specs.Effects.{vacated}
 use Rattle.tables.proofs.Changed.{changed_each}
 use Rattle.tables.proofs.Tables.vacate.Goals as goal

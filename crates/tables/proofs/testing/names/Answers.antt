@@ -1,11 +1,5 @@
 -- At each entry, what was found is whether some entry that was passed is p.
-use borrow.Author.Rules.{rules}
-use borrow.Author.Tests.{tests}
-use Prim.Native.Nat.{ℕ}
-use lib.Dec.{eqb}
-use mathlib.Core.Path.{◌≡◌, refl, sym, ap, ◌∙◌}
-use mathlib.Core.Bool.{Bool, ◌||◌}
-use mathlib.Core.List.{List}
+use Rattle.std.proofs.Common.{◌≡◌, ℕ, Bool, ◌||◌, List, eqb, refl, sym, ap, ◌∙◌, rules, tests}
 use Rattle.std.proofs.iter.Yields.{fronts}
 use Rattle.std.proofs.lemmas.Fn.{fold_over, slice_gives}
 use Rattle.std.proofs.lemmas.List.Recursion.{or_push}

@@ -1,6 +1,5 @@
 -- By the way to each return: the place waits, it claims, or its strays are revoked (`SetSteps`).
-use borrow.Author.Rules.{rules}
-use mathlib.Core.Path.{refl}
+use Rattle.std.proofs.Common.{refl, rules}
 use Rattle.tables.specs.Advances.{listed}
 use Rattle.tables.proofs.SetSteps.{sets_wait, sets_revoke, sets_claim}
 use Rattle.tables.proofs.gathering.PlaceSets.advance.Goals as goal

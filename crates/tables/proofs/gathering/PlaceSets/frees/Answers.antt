@@ -1,5 +1,5 @@
 -- By the tests: P is empty, is freed, or is kept.
-use borrow.Author.Rules.{rules}
+use Rattle.std.proofs.Common.{rules}
 use Rattle.tables.proofs.SetSteps.{sets_none, sets_free, sets_kept}
 use Rattle.tables.proofs.gathering.PlaceSets.frees.Goals as goal
 

@@ -1,4 +1,4 @@
-use Rattle.std.proofs.Common.{◌≡◌, [], ap, length, rules}
+use Rattle.std.proofs.Common.{◌≡◌, [], length, ap, rules}
 use Rattle.tables.specs.Walk.{rest}
 use Rattle.tables.proofs.NearSlots.{over, gives}
 use Rattle.tables.proofs.walking.SlotsNearIterator.next.Goals as goal
