@@ -1,8 +1,6 @@
 -- `numbers::number_len` meets its contract. The invariant: what is counted and the bytes of what is left are together one more than the bytes of x.
 -- A u32 takes at most five bytes, so the count fits.
-use mathlib.Core.Path.{◌≡◌}
-use Prim.Native.Nat.{◌+◌}
-use lib.ListN.{length}
+use Rattle.std.proofs.Common.{◌≡◌, ◌+◌, length}
 use Rattle.rules.specs.Records.{number}
 use Rattle.numbers.proofs.number_len.Given as goal
 

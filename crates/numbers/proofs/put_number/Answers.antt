@@ -1,5 +1,4 @@
-use mathlib.Core.Path.{refl}
-use native.Mathlib.Omega.{arith}
+use Rattle.std.proofs.Common.{refl, arith}
 use Rattle.rules.proofs.Number.{number_small, number_more, number_pos}
 use Rattle.numbers.proofs.Writing.{to_go₁, same_len, put_one, ended}
 use Rattle.numbers.proofs.put_number.Goals as goal

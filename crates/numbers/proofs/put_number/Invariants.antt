@@ -1,6 +1,6 @@
 -- `numbers::put_number` meets its contract. The invariant: the bytes of x go to the front of the buffer, `at` of them are there, and those of `rest` are to come.
 -- A turn of the loop writes one byte of them, and the last store the only one that is left.
-use mathlib.Core.List.{[], ◌∷◌}
+use Rattle.std.proofs.Common.{[], ◌∷◌}
 use Rattle.rules.specs.Records.{number}
 use Rattle.numbers.proofs.Writing.{Writing}
 use Rattle.numbers.proofs.put_number.Given as goal
