@@ -1,9 +1,8 @@
 // The ordinary heartbeat: of a known member, at its own epoch.
 #![tactic(auto)]
 
-ghost use Rattle.std.specs.Prelude.{◌≡◌, false, [], length};
+ghost use Rattle.std.specs.Prelude.{◌≡◌, false, []};
 ghost use Rattle.rules.specs.Basics.{any, default};
-ghost use Rattle.rules.specs.Constants.{slot_count};
 ghost use Rattle.rules.specs.Refusals.{ordinary, zero_id};
 ghost use Rattle.tables.specs.Advances.{listed, owned_of};
 ghost use Rattle.tables.specs.Places.{holder_not};
@@ -65,6 +64,8 @@ fn lists_unheld(group: &Group, p: Place, owned: Option<&[u16]>) -> bool
 }
 
 // An ordinary heartbeat of the member at place p, past the rows that need no table.
+// As it is: the new form is no plainer: the request and its list come from the caller apart, the rows of the list take it alone, `is_calm` takes one that is
+// given, and `carry` the tick alone; one struct of both would be taken apart again in each.
 fn ordinary_at(
     group: &mut Group,
     p: Place,
