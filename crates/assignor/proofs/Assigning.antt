@@ -1,16 +1,9 @@
 -- What is written is the rules' target. The places in order, of which those that subscribe are kept, are the subscribers in order (`subscribers_are`): so are the
 -- entries of each topic (`entries_are`) and of all (`all_are`). Then the entries one topic after another. Assumes nothing.
-use Prim.Native.Nat.{ℕ, zero, suc, ◌+◌, ◌-◌, ◌*◌, ◌≤◌, ◌<◌, min}
-use native.Mathlib.Nat.{zero-add}
-use native.Mathlib.Numerals.{add-one}
-use native.Mathlib.Omega.{arith}
-use mathlib.Core.Path.{◌≡◌, refl, sym, ap, ap₂, ◌∙◌}
-use mathlib.Core.Bool.{true, false, false≢true}
-use mathlib.Core.List.{List, [], ◌∷◌, ◌++◌, append-nil, map}
+use Rattle.std.proofs.Common.{ℕ, zero, suc, ◌+◌, ◌-◌, ◌*◌, ◌≤◌, ◌<◌, min, zero-add, add-one, arith, ◌≡◌, refl, sym, ap, ap₂, ◌∙◌, true, false, List, [], ◌∷◌, ◌++◌, append-nil, eqb, length, get_or, length-append, drop_of_length-le, ne_eqb}
+use mathlib.Core.Bool.{false≢true}
+use mathlib.Core.List.{map}
 use mathlib.Core.Option.{Option, none, some}
-use lib.Dec.{eqb}
-use lib.ListN.{length, get_or, length-append, drop_of_length-le}
-use borrow.Author.Tests.{ne_eqb}
 use Rattle.std.specs.Int.{w128, from_be_bytes}
 use Rattle.rules.specs.Basics.{case_of, concat_map, default, indices, keep, up_to}
 use Rattle.rules.specs.Constants.{max_members, max_partitions, slot_count, topic_count}

@@ -1,14 +1,9 @@
 -- The places that subscribe, listed one after another from the places in order: each is stored, and counts if it subscribes (`listed_next`). Then the runs of
 -- those listed, one after another. Assumes nothing.
-use Prim.Native.Nat.{ℕ, suc, ◌+◌, ◌/◌, ◌%◌, ◌^◌, ◌≤◌, ◌<◌}
+use Rattle.std.proofs.Common.{ℕ, suc, ◌+◌, ◌/◌, ◌%◌, ◌^◌, ◌≤◌, ◌<◌, add-one, arith, ◌≡◌, sym, ap, ap₂, ◌∙◌, List, [], ◌∷◌, ◌++◌, append_assoc, length, get_or, take, drop, drop_of_length-le, drop-cons, take-suc-set, eq-eqb, ne_eqb}
 use native.Mathlib.Decide.{ℕ_discrete}
-use native.Mathlib.Numerals.{add-one}
-use native.Mathlib.Omega.{arith}
-use mathlib.Core.Path.{◌≡◌, sym, ap, ap₂, ◌∙◌}
-use mathlib.Core.List.{List, [], ◌∷◌, ◌++◌, append_assoc}
-use lib.ListN.{length, get_or, set, take, drop, replicate, drop_of_length-le}
-use lib.Seq.{drop-cons, take-set-le, take-suc-set}
-use borrow.Author.Tests.{eq-eqb, ne_eqb}
+use lib.ListN.{set, replicate}
+use lib.Seq.{take-set-le}
 use Rattle.rules.specs.Basics.{keep}
 use Rattle.rules.specs.Group.{includes_topic}
 use Rattle.rules.specs.Assignor.{runs, share}

@@ -1,10 +1,5 @@
 -- What is stored of an event, as its two parts; and when it is.
-use mathlib.Core.Path.{◌≡◌, refl, sym}
-use mathlib.Core.List.{List, [], ◌∷◌, ◌++◌, append-nil}
-use Prim.Native.Nat.{ℕ, ◌+◌, ◌≤◌, ◌<◌}
-use native.Mathlib.Omega.{arith}
-use lib.ListN.{length, length-append}
-use borrow.Author.Tests.{lt-ltb, le-ltb}
+use Rattle.std.proofs.Common.{◌≡◌, refl, sym, List, [], ◌∷◌, ◌++◌, append-nil, ℕ, ◌+◌, ◌≤◌, ◌<◌, arith, length, length-append, lt-ltb, le-ltb}
 use Rattle.rules.specs.Constants.{batch_limit}
 use Rattle.rules.specs.Records.{number}
 use Rattle.rules.specs.Step.{overlay}

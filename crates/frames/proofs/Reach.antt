@@ -1,11 +1,5 @@
 -- What stands where a length would, from the length.
-use mathlib.Core.Path.{◌≡◌, sym, ap, ◌∙◌}
-use mathlib.Core.List.{List}
-use Prim.Native.Nat.{ℕ, ◌+◌, ◌-◌, ◌≤◌, ◌<◌}
-use native.Mathlib.Omega.{arith}
-use lib.ListN.{length, drop, length-drop}
-use lib.Seq.{drop-drop}
-use borrow.Author.Tests.{lt-ltb, le-ltb}
+use Rattle.std.proofs.Common.{◌≡◌, sym, ap, ◌∙◌, List, ℕ, ◌+◌, ◌-◌, ◌≤◌, ◌<◌, arith, length, drop, length-drop, drop-drop, lt-ltb, le-ltb}
 use Rattle.rules.specs.Journal.{LengthRead, after_length, read_length}
 use Rattle.std.specs.Prelude.{Ok, Err}
 use Rattle.frames.specs.Forms.{LengthAt, ExtentAt}

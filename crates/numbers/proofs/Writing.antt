@@ -1,14 +1,9 @@
 -- A buffer that is written from its start, part after part. `Writing` says what is there and which parts are to come. `begin` starts it, `put_one` (one element)
 -- and `put_at_lem` (a part written at its place) take it further, `ended` closes it. A writer that was lent a part of the buffer wrote at a place (`part_over`).
 -- A straight line of such writers goes by `Stage`, `begun`, `first`, `next` and `next_at`.
-use mathlib.Core.Path.{◌≡◌, refl, sym, ap, ap₂, ◌∙◌}
-use mathlib.Core.List.{List, [], ◌∷◌, ◌++◌, append_assoc, append-nil}
-use Prim.Native.Nat.{ℕ, suc, ◌+◌, ◌-◌, ◌≤◌, ◌<◌}
-use native.Mathlib.Nat.{le_of_eq, zero-add}
-use native.Mathlib.Omega.{arith}
-use native.Mathlib.Numerals.{add-one}
-use lib.ListN.{length, take, drop, set, length-append, length-drop, drop_of_length-le}
-use lib.Seq.{drop-cons, set_at, take_at, drop_at, drop-drop, take_all}
+use Rattle.std.proofs.Common.{refl, sym, ap, ap₂, ◌∙◌, append_assoc, append-nil, le_of_eq, zero-add, arith, add-one, length-append, length-drop, drop_of_length-le, drop-cons, take_at, drop_at, drop-drop, take_all, ◌≡◌, List, [], ◌∷◌, ◌++◌, ℕ, suc, ◌+◌, ◌-◌, ◌≤◌, ◌<◌, length, take, drop}
+use lib.ListN.{set}
+use lib.Seq.{set_at}
 use Rattle.rules.specs.Step.{overlay}
 use Rattle.numbers.specs.Buffer.{overlay_at, Wrote, WroteAt, flat}
 

@@ -1,13 +1,9 @@
 -- Bits of a word, as `bit` reads them: what `&`, `|`, `^`, `!`, a shifted one and a halving do to each.
-use mathlib.Core.Path.{◌≡◌, refl, sym, ap, ◌∙◌}
-use mathlib.Core.Bool.{Bool, false, not, ◌&&◌, ◌||◌}
-use Prim.Native.Nat.{ℕ, zero, suc, ◌+◌, ◌-◌, ◌*◌, ◌/◌, ◌%◌, ◌^◌, ◌<◌, min, max}
-use native.Mathlib.Nat.{pow-suc, mod-lt, div-one, zero-div, mul-mod_left}
-use native.Mathlib.Numerals.{one-add}
-use native.Mathlib.Omega.{arith}
-use lib.Dec.{eqb, eqb-zero-suc, eqb-suc-zero, eqb-suc-suc, lit<}
+use Rattle.std.proofs.Common.{◌≡◌, refl, sym, ap, ◌∙◌, Bool, false, not, ◌&&◌, ◌||◌, ℕ, zero, suc, ◌+◌, ◌-◌, ◌*◌, ◌/◌, ◌%◌, ◌^◌, ◌<◌, min, pow-suc, mod-lt, div-one, one-add, arith, eqb, lit<, shr-shr}
+use Prim.Native.Nat.{max}
+use native.Mathlib.Nat.{zero-div, mul-mod_left}
+use lib.Dec.{eqb-zero-suc, eqb-suc-zero, eqb-suc-suc}
 use lib.Arith.{digits_mod}
-use lib.Pow.{shr-shr}
 use lib.Bits.{bit_and, bit_or, and_step, or_step, and_shr, or_shr}
 use Rattle.slots.specs.Set.{bit}
 

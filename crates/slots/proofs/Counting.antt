@@ -1,15 +1,8 @@
 -- The number of slots of a set, word by word. The ones of a word are the positions whose bit is set (`ones_are`), so each word has as many slots as the
 -- machine counts ones in it (`word_more`).
 use Rattle.std.specs.Prelude.{if◌then◌else◌}
-use mathlib.Core.Path.{◌≡◌, refl, sym, ap, ◌∙◌}
-use mathlib.Core.Bool.{Bool, true, false}
-use mathlib.Core.List.{List, ◌∷◌, ◌++◌}
-use Prim.Native.Nat.{ℕ, zero, suc, ◌+◌, ◌*◌, ◌/◌, ◌%◌, ◌^◌, ◌<◌}
-use native.Mathlib.Nat.{add-zero, mod-lt, pow-suc, zero-add}
-use native.Mathlib.Omega.{arith}
+use Rattle.std.proofs.Common.{◌≡◌, refl, sym, ap, ◌∙◌, Bool, true, false, List, ◌∷◌, ◌++◌, ℕ, zero, suc, ◌+◌, ◌*◌, ◌/◌, ◌%◌, ◌^◌, ◌<◌, add-zero, mod-lt, pow-suc, zero-add, arith, eqb, lit<, length, get_or, length-append}
 use lib.Count.{ones, ones_step}
-use lib.Dec.{eqb, lit<}
-use lib.ListN.{length, get_or, length-append}
 use Rattle.rules.specs.Basics.{keep, up_to}
 use Rattle.slots.specs.Set.{bit, has, select}
 use Rattle.slots.proofs.Bits.{bit_low, bit_suc}

@@ -1,12 +1,7 @@
 -- A loop over the slots that gathers those that a test f picks: below i the set g is what f says, from i on it is empty.
-use mathlib.Core.Path.{◌≡◌, refl, sym, ◌∙◌}
-use mathlib.Core.Bool.{Bool, false, ◌&&◌, ◌||◌, or-false}
-use Prim.Native.Nat.{ℕ, ◌+◌, ◌≤◌, ◌<◌}
+use Rattle.std.proofs.Common.{◌≡◌, refl, sym, ◌∙◌, Bool, false, ◌&&◌, ◌||◌, ℕ, ◌+◌, ◌≤◌, ◌<◌, arith, eqb, below_more, eq-eqb, ne_eqb}
+use mathlib.Core.Bool.{or-false}
 use native.Mathlib.Decide.{dec_lt}
-use native.Mathlib.Omega.{arith}
-use lib.Dec.{eqb}
-use borrow.Author.Count.{below_more}
-use borrow.Author.Tests.{eq-eqb, ne_eqb}
 
 pub record Gather (f g : ℕ → Bool) (i : ℕ) : Type 0 where
   pub done : (s : ℕ) → s < i → g s ≡ f s

@@ -1,15 +1,8 @@
 -- The lowest and the highest bit of a word, slots that are all passed over, and whether a set has a slot at all.
-use mathlib.Core.Path.{◌≡◌, refl, sym, ap, ◌∙◌}
-use mathlib.Core.Bool.{Bool, true, false, true≢false}
-use mathlib.Core.List.{List, [], ◌∷◌}
-use Prim.Native.Nat.{ℕ, zero, suc, ◌+◌, ◌*◌, ◌/◌, ◌%◌, ◌^◌, ◌≤◌, ◌<◌, suc-le-suc}
-use native.Mathlib.Nat.{pow-suc, mod-lt}
+use Rattle.std.proofs.Common.{◌≡◌, refl, sym, ap, ◌∙◌, Bool, true, false, true≢false, List, [], ◌∷◌, ℕ, zero, suc, ◌+◌, ◌*◌, ◌/◌, ◌%◌, ◌^◌, ◌≤◌, ◌<◌, suc-le-suc, pow-suc, mod-lt, arith, eqb, lit<, length, get_or, shr-shr}
 use native.Mathlib.Decide.{dec_lt}
-use native.Mathlib.Omega.{arith}
-use lib.Dec.{eqb, lit<}
-use lib.ListN.{length, get_or, replicate, get_or-replicate}
+use lib.ListN.{replicate, get_or-replicate}
 use lib.Pointwise.{pointwise, bytes_decides}
-use lib.Pow.{shr-shr}
 use lib.Count.{count_trailing_zeros, under}
 use Rattle.slots.specs.Set.{bit, has, TellsEmpty, word_count}
 use Rattle.slots.proofs.Bits.{bit_suc, bit_low, bit_zero}

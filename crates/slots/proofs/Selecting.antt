@@ -1,15 +1,7 @@
 -- The rising list of the numbers that a test picks, by `select`: its first number, its length, which numbers it has, and that numbers that are not picked
 -- are stepped over.
 use Rattle.std.specs.Prelude.{if◌then◌else◌}
-use mathlib.Core.Path.{◌≡◌, refl, sym, ap, ◌∙◌}
-use mathlib.Core.Bool.{Bool, true, false}
-use mathlib.Core.List.{List, [], ◌∷◌, ◌++◌}
-use Prim.Native.Nat.{ℕ, zero, suc, ◌+◌, ◌-◌, ◌≤◌, ◌<◌}
-use native.Mathlib.Nat.{add-suc, add-zero, suc-add, zero-add}
-use native.Mathlib.Numerals.{add-one}
-use native.Mathlib.Omega.{arith}
-use lib.Dec.{eqb}
-use lib.ListN.{length}
+use Rattle.std.proofs.Common.{◌≡◌, refl, sym, ap, ◌∙◌, Bool, true, false, List, [], ◌∷◌, ◌++◌, ℕ, zero, suc, ◌+◌, ◌-◌, ◌≤◌, ◌<◌, add-suc, add-zero, suc-add, zero-add, add-one, arith, eqb, length}
 use Rattle.rules.specs.Basics.{any, keep, same, up_to}
 use Rattle.rules.specs.Constants.{slot_count}
 use Rattle.rules.proofs.Lists.{keep_ext, keep_has, same_eq}

@@ -1,15 +1,10 @@
 -- The slots of a set, from one to the next. The next one is the lowest bit of what is left of a word (`take_first`), and `w & (w - 1)` takes that bit off
 -- (`take_off`); where nothing is left (`none_in`), the walk enters the next word (`enter`).
-use mathlib.Core.Path.{◌≡◌, refl, sym, ap, ◌∙◌}
-use mathlib.Core.Bool.{Bool, true, false, not, ◌&&◌, and-false}
-use mathlib.Core.List.{List, [], ◌∷◌, ◌++◌}
-use Prim.Native.Nat.{ℕ, zero, suc, ◌+◌, ◌-◌, ◌*◌, ◌/◌, ◌%◌, ◌^◌, ◌≤◌, ◌<◌}
-use native.Mathlib.Nat.{add-suc, add-zero, mod-lt, pow-suc, suc-add}
-use native.Mathlib.Omega.{arith}
+use Rattle.std.proofs.Common.{◌≡◌, refl, sym, ap, ◌∙◌, Bool, true, false, not, ◌&&◌, List, [], ◌∷◌, ◌++◌, ℕ, zero, suc, ◌+◌, ◌-◌, ◌*◌, ◌/◌, ◌%◌, ◌^◌, ◌≤◌, ◌<◌, add-suc, add-zero, mod-lt, pow-suc, suc-add, arith, eqb, lit<, get_or}
+use mathlib.Core.Bool.{and-false}
 use lib.Bits.{bit_and}
 use lib.Count.{count_trailing_zeros, under}
-use lib.Dec.{eqb, eqb-suc-suc, eqb-suc-zero, lit<}
-use lib.ListN.{get_or}
+use lib.Dec.{eqb-suc-suc, eqb-suc-zero}
 use Rattle.rules.specs.Basics.{keep, up_to}
 use Rattle.rules.proofs.Lists.{keep_ext}
 use Rattle.slots.specs.Set.{bit, has, select, slots_of, word_count}

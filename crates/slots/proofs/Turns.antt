@@ -1,10 +1,6 @@
 -- What a turn of a loop over the slots of a set knows: the slots that are still to come are those from some number n on, and so the next of them is the lowest
 -- from n on (`turn`), and where none comes there is none (`over`). The loop begins at 0 (`all_to_come`).
-use mathlib.Core.Path.{◌≡◌, refl, sym, ap, ◌∙◌}
-use mathlib.Core.Bool.{Bool, true, false}
-use mathlib.Core.List.{List, [], ◌∷◌}
-use Prim.Native.Nat.{ℕ, zero, suc, ◌+◌, ◌-◌, ◌≤◌, ◌<◌}
-use native.Mathlib.Omega.{arith}
+use Rattle.std.proofs.Common.{◌≡◌, refl, sym, ap, ◌∙◌, Bool, true, false, List, [], ◌∷◌, ℕ, zero, suc, ◌+◌, ◌-◌, ◌≤◌, ◌<◌, arith}
 use Rattle.std.specs.Prelude.{if◌then◌else◌}
 use Rattle.rules.specs.Basics.{keep, up_to}
 use Rattle.rules.specs.Constants.{slot_count}

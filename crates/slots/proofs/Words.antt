@@ -1,18 +1,10 @@
 -- Sets as words, slot by slot, by `has`. Storing a word with one bit marked or not marks that slot alone (`has_mark`); an operation on each word that is g
 -- on bits is g on sets (`wordwise`), whence union and difference.
-use mathlib.Core.Path.{◌≡◌, sym, ap, ap₂, ◌∙◌}
-use mathlib.Core.Bool.{Bool, true, false, ◌&&◌, ◌||◌, and-true, and-false, or-false, true≢false}
-use mathlib.Core.List.{List}
-use Prim.Native.Nat.{ℕ, ◌*◌, ◌/◌, ◌%◌, ◌^◌, ◌≤◌, ◌<◌}
-use native.Mathlib.Nat.{mod-lt, one-mul}
+use Rattle.std.proofs.Common.{◌≡◌, sym, ap, ap₂, ◌∙◌, Bool, true, false, ◌&&◌, ◌||◌, true≢false, List, ℕ, ◌*◌, ◌/◌, ◌%◌, ◌^◌, ◌≤◌, ◌<◌, mod-lt, one-mul, arith, eqb, lit<, length, get_or, get_or-set_same, get_or-set_other, shl_exact, eq-eqb, ne_eqb}
+use mathlib.Core.Bool.{and-true, and-false, or-false}
 use native.Mathlib.Decide.{ℕ_discrete, dec_lt}
-use native.Mathlib.Omega.{arith}
-use lib.Dec.{eqb, lit<}
-use lib.ListN.{length, get_or, set, get_or-eq_default}
-use lib.Seq.{get_or-set_same, get_or-set_other}
-use lib.Pow.{shl_exact}
+use lib.ListN.{set, get_or-eq_default}
 use lib.Bits.{bit_or}
-use borrow.Author.Tests.{eq-eqb, ne_eqb}
 use Rattle.slots.specs.Set.{bit, has, word_count}
 use Rattle.rules.specs.Constants.{slot_count}
 use Rattle.slots.proofs.Bits.{bit_or_lem, bit_one, bit_zero}

@@ -1,8 +1,4 @@
-use Prim.Native.Nat.{ℕ}
-use native.Mathlib.Omega.{arith}
-use mathlib.Core.Path.{sym, ap, ◌∙◌}
-use mathlib.Core.List.{List, ◌++◌, append-nil}
-use lib.ListN.{take, length-set}
+use Rattle.std.proofs.Common.{ℕ, arith, sym, ap, ◌∙◌, List, ◌++◌, append-nil, take, length-set}
 use Rattle.assignor.proofs.Listing.{among_end, listed_next}
 use Rattle.assignor.proofs.list_subscribers.Goals as goal
 

@@ -1,8 +1,5 @@
 -- Those listed and those among the places that are left are all (`listed_next`). Assumes nothing.
-use Prim.Native.Nat.{◌≤◌}
-use mathlib.Core.Path.{◌≡◌}
-use mathlib.Core.List.{◌++◌}
-use lib.ListN.{length, take, drop}
+use Rattle.std.proofs.Common.{◌≤◌, ◌≡◌, ◌++◌, length, take, drop}
 use Rattle.rules.specs.Constants.{max_members}
 use Rattle.assignor.specs.Shares.{among}
 use Rattle.assignor.proofs.list_subscribers.Given as goal

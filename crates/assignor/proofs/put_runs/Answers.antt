@@ -1,8 +1,5 @@
-use Prim.Native.Nat.{ℕ, ◌+◌, ◌≤◌, ◌<◌}
-use native.Mathlib.Omega.{arith}
-use mathlib.Core.Path.{◌∙◌}
-use mathlib.Core.List.{List, [], ◌∷◌, append-nil}
-use lib.ListN.{length, get_or, drop, replicate, length-replicate}
+use Rattle.std.proofs.Common.{ℕ, ◌+◌, ◌≤◌, ◌<◌, arith, ◌∙◌, List, [], ◌∷◌, append-nil, length, get_or, drop}
+use lib.ListN.{replicate, length-replicate}
 use Rattle.rules.specs.Assignor.{runs, share}
 use Rattle.ranges.proofs.Runs.{runs_most}
 use Rattle.numbers.proofs.Writing.{Writing, begin, cut, put_at_lem, part_over, room, ended}

@@ -1,6 +1,5 @@
 -- The runs of the subscribers that are left are to come (`Writing`); each goes where the last ended. Assumes nothing.
-use mathlib.Core.List.{[], ◌∷◌}
-use lib.ListN.{length, drop}
+use Rattle.std.proofs.Common.{[], ◌∷◌, length, drop}
 use Rattle.rules.specs.Assignor.{runs}
 use Rattle.numbers.proofs.Writing.{Writing}
 use Rattle.assignor.proofs.put_runs.Given as goal

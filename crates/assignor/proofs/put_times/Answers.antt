@@ -1,7 +1,6 @@
 -- What is filled has the entry, and the rest stays. Assumes nothing.
-use mathlib.Core.Path.{sym}
+use Rattle.std.proofs.Common.{sym, length-take-le}
 use lib.ListN.{length-replicate}
-use lib.Seq.{length-take-le}
 use Rattle.rules.specs.Step.{overlay}
 use Rattle.assignor.proofs.put_times.Goals as goal
 

@@ -1,9 +1,6 @@
 -- The runs come first, and after them none, so that the entries are as many as a topic may have partitions. Assumes nothing.
-use Prim.Native.Nat.{ℕ, ◌-◌, ◌≤◌}
-use native.Mathlib.Omega.{arith}
-use mathlib.Core.Path.{refl, ap, subst}
-use mathlib.Core.List.{List, [], ◌∷◌, ◌++◌, append-nil}
-use lib.ListN.{length, take, drop, replicate}
+use Rattle.std.proofs.Common.{ℕ, ◌-◌, ◌≤◌, arith, refl, ap, subst, List, [], ◌∷◌, ◌++◌, append-nil, length, take, drop}
+use lib.ListN.{replicate}
 use Rattle.rules.specs.Constants.{max_partitions, no_place}
 use Rattle.rules.specs.Assignor.{padded, runs}
 use Rattle.ranges.proofs.Runs.{padded_long, runs_most}

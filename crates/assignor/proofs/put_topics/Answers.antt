@@ -1,8 +1,4 @@
-use Prim.Native.Nat.{ℕ, ◌+◌, ◌<◌, min}
-use native.Mathlib.Omega.{arith}
-use mathlib.Core.Path.{◌≡◌, ◌∙◌}
-use mathlib.Core.List.{List, [], ◌∷◌, append-nil}
-use lib.ListN.{length, get_or, take}
+use Rattle.std.proofs.Common.{ℕ, ◌+◌, ◌<◌, min, arith, ◌≡◌, ◌∙◌, List, [], ◌∷◌, append-nil, length, get_or, take}
 use Rattle.rules.specs.Constants.{max_partitions, topic_count}
 use Rattle.rules.specs.Assignor.{padded, runs}
 use Rattle.numbers.specs.Buffer.{Wrote}

@@ -1,5 +1,5 @@
 -- The entries of the topics that are left are to come (`Writing`); each topic's go to the part where the last ended. Assumes nothing.
-use mathlib.Core.List.{[], ◌∷◌}
+use Rattle.std.proofs.Common.{[], ◌∷◌}
 use Rattle.numbers.proofs.Writing.{Writing}
 use Rattle.assignor.specs.Shares.{all_entries}
 use Rattle.assignor.proofs.Assigning.{From}

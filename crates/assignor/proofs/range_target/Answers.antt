@@ -1,6 +1,5 @@
 -- The places are sorted by the IDs of the columns, and the subscriptions and the counts are the group's: so what is written is the rules' target (`all_are`).
-use native.Mathlib.Omega.{arith}
-use mathlib.Core.Path.{◌∙◌}
+use Rattle.std.proofs.Common.{arith, ◌∙◌}
 use Rattle.rules.specs.Constants.{max_members}
 use Rattle.assignor.proofs.Ordering.{sorted_places}
 use Rattle.assignor.proofs.Assigning.{all_are}

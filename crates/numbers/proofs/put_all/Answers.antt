@@ -1,7 +1,5 @@
-use Rattle.std.proofs.Common.{◌≡◌, ap, ◌∙◌, ◌<◌, ℕ, length, drop, arith}
-use mathlib.Core.List.{append-nil}
-use lib.Seq.{drop-cons, drop-length}
-use native.Mathlib.Numerals.{add-one}
+use Rattle.std.proofs.Common.{◌≡◌, ap, ◌∙◌, ◌<◌, ℕ, length, drop, append-nil, drop-cons, add-one, arith}
+use lib.Seq.{drop-length}
 use Rattle.numbers.proofs.Writing.{put_one, ended}
 use Rattle.numbers.proofs.put_all.Goals as goal
 

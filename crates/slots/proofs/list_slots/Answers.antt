@@ -1,5 +1,4 @@
-use Rattle.std.proofs.Common.{ap, ◌∙◌, arith}
-use mathlib.Core.List.{append-nil}
+use Rattle.std.proofs.Common.{ap, ◌∙◌, arith, append-nil}
 use Rattle.slots.specs.Walk.{rest}
 use Rattle.numbers.proofs.Writing.{begin, to_go₁, same_len, put_one, ended}
 use Rattle.slots.proofs.list_slots.Goals as goal

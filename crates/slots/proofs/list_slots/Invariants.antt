@@ -1,5 +1,5 @@
 -- What the walk has still to give is still to be written.
-use mathlib.Core.List.{[], ◌∷◌}
+use Rattle.std.proofs.Common.{[], ◌∷◌}
 use Rattle.numbers.proofs.Writing.{Writing}
 use Rattle.slots.specs.Set.{slots_of}
 use Rattle.slots.specs.Walk.{rest}

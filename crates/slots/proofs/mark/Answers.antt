@@ -1,5 +1,4 @@
-use Prim.Native.Nat.{◌%◌}
-use native.Mathlib.Omega.{arith}
+use Rattle.std.proofs.Common.{◌%◌, arith}
 use Rattle.slots.proofs.Words.{bit_put}
 use Rattle.slots.proofs.mark.Goals as goal
 

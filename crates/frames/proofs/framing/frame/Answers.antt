@@ -1,5 +1,5 @@
 use Rattle.frames.proofs.Entries.{entry_length, framed_empty, framed_is, framed_large, no_room, nothing_stored, room}
-use native.Mathlib.Omega.{arith}
+use Rattle.std.proofs.Common.{arith}
 use Rattle.frames.proofs.framing.frame.Goals as goal
 
 pub returns-then-n-gt-BATCH_LIMIT : goal.returns-then-n-gt-BATCH_LIMIT

@@ -1,15 +1,8 @@
-use mathlib.Core.Path.{◌≡◌, refl}
-use mathlib.Core.Bool.{not, ◌&&◌}
-use Prim.Native.Nat.{◌-◌, ◌^◌}
-use native.Mathlib.Omega.{arith}
-use lib.ListN.{length, get_or}
+use Rattle.std.proofs.Common.{◌≡◌, refl, not, ◌&&◌, ◌-◌, ◌^◌, arith, length, get_or, w64, Fits, rules}
 use lib.Bits.{bit_and}
-use mir.Syntax.{w64}
-use mir.Val.{Fits}
 use Rattle.slots.proofs.Bits.{bit_without}
 use Rattle.slots.proofs.Each.{each_more}
 use Rattle.slots.proofs.Words.{wordwise}
-use borrow.Author.Rules.{rules}
 use Rattle.slots.specs.Set.{word_count}
 use Rattle.slots.proofs.SlotSet.difference.Goals as goal
 

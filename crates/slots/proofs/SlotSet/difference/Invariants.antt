@@ -1,6 +1,5 @@
 -- Each word of the result is the word without the bits of the other, whence the slots are those that the other has not (`wordwise`).
-use Prim.Native.Nat.{◌-◌, ◌^◌, ◌≤◌}
-use lib.ListN.{get_or}
+use Rattle.std.proofs.Common.{◌-◌, ◌^◌, ◌≤◌, get_or}
 use lib.Bits.{bit_and}
 use Rattle.slots.proofs.Each.{Each}
 use Rattle.slots.specs.Set.{word_count}

@@ -1,14 +1,8 @@
-use mathlib.Core.Path.{◌≡◌, refl}
-use mathlib.Core.Bool.{◌||◌}
-use native.Mathlib.Omega.{arith}
-use lib.ListN.{length, get_or}
-use mir.Syntax.{w64}
-use mir.Val.{Fits}
+use Rattle.std.proofs.Common.{◌≡◌, refl, ◌||◌, arith, length, get_or, w64, Fits, rules}
 use lib.Bits.{bit_or}
 use Rattle.slots.proofs.Bits.{bit_or_lem}
 use Rattle.slots.proofs.Each.{each_more}
 use Rattle.slots.proofs.Words.{wordwise}
-use borrow.Author.Rules.{rules}
 use Rattle.slots.specs.Set.{word_count}
 use Rattle.slots.proofs.SlotSet.union.Goals as goal
 

@@ -1,6 +1,5 @@
 -- Each word of the result is the two words or-ed, whence the slots are those of either (`wordwise`).
-use Prim.Native.Nat.{◌≤◌}
-use lib.ListN.{get_or}
+use Rattle.std.proofs.Common.{◌≤◌, get_or}
 use lib.Bits.{bit_or}
 use Rattle.slots.proofs.Each.{Each}
 use Rattle.slots.specs.Set.{word_count}
