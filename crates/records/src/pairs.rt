@@ -11,7 +11,7 @@ pub(crate) struct Pair<A: Encode, B: Encode> {
     ghost small: { A.most + B.most ≤ 65536 },
 }
 
-// As it is: the prover refuses to derive `Clone` beside a ghost field.
+// As it is: tried, and beside a ghost field `Clone` cannot be derived for a struct that has type parameters.
 impl<A: Encode, B: Encode> Clone for Pair<A, B> {
     fn clone(&self) -> Result<Pair<A, B>, AllocError> {
         Ok(*self)
