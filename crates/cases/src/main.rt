@@ -234,6 +234,7 @@ fn run_table<W: Write>(out: &mut W, table: &[u8]) -> io::Result<()> {
 // Reads until the table is full or the input ends.
 fn fill<R: Read>(input: &mut R, table: &mut [u8]) -> io::Result<()> {
     let mut at: usize = 0;
+    // As it is: a `for` is no plainer, since each turn goes as far as was read.
     while at < table.len() {
         let n = input.read(&mut table[at..])?;
         if n == 0 {

@@ -96,6 +96,7 @@ impl<'a> Links<'a> {
         let mut at = 0;
         let mut last: u16 = 0;
         let mut slot = self.firsts[p.0 as usize];
+        // As it is: a `for` over an iterator is no plainer, since its `next` would be this walk along the links, and is made for this loop alone.
         while slot < SLOT_END {
             at = records::put_at(buf, at, (slot - last) as u32);
             last = slot;

@@ -14,8 +14,9 @@ pub mod kinds; // a record of each kind
 pub mod batches; // what an event stores
 
 // Something with bytes of its own.
-// As it is: each record has a `put` and a `size` of one line. An `impl<T: Fields> Encode for T`, which says them once, was tried, and the proofs didn't close:
-// the prover takes no impl for a type that others of the trait might fit too.
+// As it is: each record has a `put` and a `size` of one line. Tried: an `impl<T: Fields> Encode for T` says them once, and the prover takes no impl for a type
+// that others of the trait might fit too. A second trait of which they are default methods is no plainer: it needs a wrapper to be an `Encode` and one for
+// what may be missing, and each record would be told as `Of(record)` or `If(record)` wherever it is stored.
 pub trait Encode: Copy {
     // Its bytes.
     ghost bytes: { Self → List ℕ };

@@ -101,6 +101,7 @@ pub fn list_slots(out: &mut [u16], a: SlotSet) -> usize
     requires { length (slots_of a.words) ≤ length out.old }
     ensures { Wrote (slots_of a.words) out.old out.new result }
 {
+    // As it is: `enumerate` is no plainer, since how many there are is the answer too.
     let mut at: usize = 0;
     for slot in a.slots() {
         out[at] = slot;
