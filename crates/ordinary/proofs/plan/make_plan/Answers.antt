@@ -24,4 +24,4 @@ returns c = λ below own.
     let words : length sets.result.revoking.words ≡ word_count = search rules in
     let whole = slots_length t sets.ensures.whole in
     let adv = advances p vs whole (omega (arith, below)) sets.result words sets.ensures.sets owned step.result step.ensures in
-    plan_is (view a.group.now) a.b owned a.s.place a.s.seat sets.result step.result own whole sets.ensures.sets adv next.result next.ensures (written p vs owned step.result adv) _ _ refl (ap (λ (x : Bool). not (eqb next.result.epoch a.s.seat.epoch) || x) c.moves.ensures)
+    plan_is (view a.group.now) a.b owned a.s.place a.s.seat sets.result step.result own whole sets.ensures.sets adv next.result next.ensures (written p vs owned step.result adv) _ _ refl (ap (λ (x : Bool). not (eqb next.result.seat.epoch a.s.seat.epoch) || x) c.moves.ensures)
