@@ -1,5 +1,5 @@
 -- What an ordinary heartbeat decides before anything is written, and the effect that a plan stands for; and what is asked of one that is quiet.
-use Rattle.std.specs.Prelude.{ℕ, ◌≤◌, ◌<◌, ◌≡◌, false, ◌&&◌, List, [], ◌∷◌, Some, length, get_or, set, if◌then◌else◌}
+use Rattle.std.specs.Prelude.{ℕ, ◌≤◌, ◌<◌, ◌≡◌, false, true, ◌&&◌, List, [], ◌∷◌, Some, length, get_or, set, if◌then◌else◌}
 use Rattle.std.specs.Bool.{then_some}
 use Rattle.std.proofs.Math.Option.{Option, none, some}
 use Rattle.rules.specs.Basics.{any, default}
@@ -134,8 +134,9 @@ ordinary_step g s b buffer list =
 
 -- ---- the heartbeat that changes nothing but the two ticks
 
--- there is room for the list l; E is at T or above; nothing else is given that differs from what the member has; and the slots stay
+-- the list l is given, and there is room for it; E is at T or above; nothing else is given that differs from what the member has; and the slots stay
 pub record Calm (g : Group) (p e : ℕ) (b : Request) (l : List ℕ) (room : ℕ) : Type 0 where
+  pub listed : b.has_list ≡ true
   pub whole : length (slots_in g.tables) ≡ slot_count
   pub few : length l ≤ slot_count
   pub fits : length l ≤ room
@@ -146,9 +147,9 @@ pub record Calm (g : Group) (p e : ℕ) (b : Request) (l : List ℕ) (room : ℕ
 
 -- what the code then does: the two ticks are set, and the list is told
 pub record Heard (g : Group) (p tick epoch : ℕ) (l list : List ℕ) (r : Outcome) (g' : Group) (list' : List ℕ) : Type 0 where
-  pub says : r ≡ record { answer = Assigned (record { epoch = epoch; interval = heartbeat_interval; count = length l }); written = 0 }
+  pub says : length l ≤ slot_count → r ≡ record { answer = Assigned (record { epoch = epoch; interval = heartbeat_interval; count = length l }); written = 0 }
   pub head_is : g'.head ≡ record { epoch = g.head.epoch; target_epoch = g.head.target_epoch; tick = tick }
   pub members_are : view_members g'.members.cells ≡ set (view_members g.members.cells) p (heard_at tick (get_or (view_members g.members.cells) p none))
   pub topics_stay : g'.topics ≡ g.topics
   pub tables_stay : g'.tables ≡ g.tables
-  pub told : list' ≡ overlay l list
+  pub told : length l ≤ length list → list' ≡ overlay l list

@@ -1,6 +1,5 @@
 // The heartbeat that changes nothing but the two ticks: the commonest, told from the group without a set or a copy.
-ghost use Rattle.std.specs.Prelude.{◌≡◌, true, ◌≤◌, length};
-ghost use Rattle.rules.specs.Constants.{slot_count};
+ghost use Rattle.std.specs.Prelude.{◌≡◌, true};
 ghost use Rattle.ordinary.specs.Plans.{Calm, Heard};
 
 use events::{Outcome, Request};
@@ -14,7 +13,8 @@ pub fn is_calm(group: &Group, p: Place, e: u32, b: Request, owned: &[u16], room:
 {
     let subscription = group.members.subscription_at(p);
     let timeout = group.members.timeout_at(p);
-    owned.len() <= SLOTS
+    b.has_list
+        && owned.len() <= SLOTS
         && owned.len() <= room
         && group.head.target_epoch <= e
         && b.subscription_or(subscription) == subscription
@@ -22,7 +22,7 @@ pub fn is_calm(group: &Group, p: Place, e: u32, b: Request, owned: &[u16], room:
         && quiet::is_quiet(&group.tables, p, owned)
 }
 
-// The member at place p is heard at a tick and told its slots, which it listed.
+// The member at place p is heard at a tick and told its slots, which it listed; a list that does not fit is not told.
 #[tactic(auto, unfolding(rules::specs::Step::overlay))]
 pub fn hear(
     group: &mut Group,
@@ -32,18 +32,18 @@ pub fn hear(
     owned: &[u16],
     list: &mut [u16],
 ) -> Outcome
-    requires few { length owned.now ≤ slot_count }
-    requires fits { length owned.now ≤ length list.old }
     ensures { Heard group.old p.0 tick epoch owned.now list.old result group.new list.new }
 {
-    numbers::put_all(list, owned);
+    if owned.len() <= list.len() {
+        numbers::put_all(list, owned);
+    }
     group.members.hear(p, tick);
     group.head.tick = tick;
     Outcome {
         answer: Answer::Assigned(Assignment {
             epoch: epoch,
             interval: HEARTBEAT_INTERVAL,
-            count: owned.len() as u32,
+            count: u32::try_from(owned.len()).unwrap_or(0),
         }),
         written: 0,
     }

@@ -93,10 +93,10 @@ returns-then-is_calm c =
     let d = c.hear.ensures in
     let s = view_sender (sender_at g.members.cells p) in
     let good = ap (λ (o : Option (List ℕ)). bad_list (default [] o)) given ∙ quiet_good q.quiet q.whole in
-    let says = d.says ∙ (λ i. record { answer = Assigned (record { epoch = e i; interval = heartbeat_interval; count = length slots }); written = 0 }) in
+    let says = d.says q.few ∙ (λ i. record { answer = Assigned (record { epoch = e i; interval = heartbeat_interval; count = length slots }); written = 0 }) in
     let gone = heard_group g c.hear.new.group p.0 a.b.tick a.e slots a.list.now c.hear.new.list c.hear.result s.member (seat_found g a.b l p f) d in
     acceptance c.hear.result g c.hear.new.group a.records.now c.hear.new.list (ap (λ (r : Outcome). r.answer) says) tt d.topics_stay
-    ((λ i. took (says i) (gone i) a.records.now (d.told i))
+    ((λ i. took (says i) (gone i) a.records.now (d.told q.fits i))
     ∙ sym (stays_so (view g) s (asked a.b l) slots (same_id g a.b l p f) given q.same_subscription q.same_timeout (omega (arith, q.reached, e)) q.quiet a.records.now a.list.now q.fits)
     ∙ sym (rows_passed (view g) (asked a.b l) a.e a.records.now a.list.now t h f.found (who g a.b l p f) (eq-eqb _ _ e) good))
 
