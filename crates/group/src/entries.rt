@@ -12,8 +12,8 @@ use rules::{MEMBERS, NO_PLACE, PARTITIONS, TOPICS};
 
 // What the entries are tried against: the count of each topic, the subscription at each place, and the topics whose slots may not be left with none.
 #[derive(Drop)]
-struct Trial {
-    counts: [u8; TOPICS],
+struct Trial<'a> {
+    counts: &'a [u8; TOPICS],
     subscriptions: [u16; MEMBERS],
     wanted: u16,
 }
@@ -30,16 +30,17 @@ fn wanted_topics(rule: bool, subscriptions: &[u16; MEMBERS]) -> u16
         .fold(0, |all, subscription| all | *subscription)
 }
 
-impl Trial {
+impl<'a> Trial<'a> {
     // Whether an entry may not stand at a slot: it is a place, and the slot does not exist or no member there subscribes to its topic; or it is none, and the
     // slot exists and its topic is wanted.
     #[tactic(auto, using(crate::proofs::Installing::none_subscribed), unfolding(rules::specs::Group::includes_topic, crate::specs::Entries::entry_bad, crate::specs::Entries::slot_exists))]
     fn is_bad(&self, slot: usize, entry: u8) -> bool
-        ensures { result ≡ entry_bad self.now.counts self.now.subscriptions self.now.wanted slot entry }
+        ensures { result ≡ entry_bad self.now.counts.now self.now.subscriptions self.now.wanted slot entry }
     {
         let topic = slot / PARTITIONS;
         let partition = (slot % PARTITIONS) as u8;
-        if TOPICS <= topic || self.counts[topic] <= partition {
+        let counts = self.counts;
+        if counts.get(topic).copied().unwrap_or(0) <= partition {
             return entry != NO_PLACE;
         }
         if entry == NO_PLACE {
@@ -51,7 +52,7 @@ impl Trial {
 
     // The first slot whose entry may not stand.
     fn first_bad(&self, entries: &[u8]) -> Option<usize>
-        ensures { result ≡ position_from (λ e. entry_bad self.now.counts self.now.subscriptions self.now.wanted e.0 e.1) 0 (enumerate_from 0 entries.now) }
+        ensures { result ≡ position_from (λ e. entry_bad self.now.counts.now self.now.subscriptions self.now.wanted e.0 e.1) 0 (enumerate_from 0 entries.now) }
     {
         entries
             .iter()
@@ -67,7 +68,7 @@ impl Group {
     {
         let subscriptions = self.members.subscriptions();
         let trial = Trial {
-            counts: self.topics.counts,
+            counts: &self.topics.counts,
             subscriptions: subscriptions,
             wanted: wanted_topics(rule, &subscriptions),
         };
