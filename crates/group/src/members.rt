@@ -99,7 +99,7 @@ impl Members {
     pub fn find_vacant(&self) -> Option<Place>
         ensures { Finds (any vacant (view_members self.now.cells)) (find vacant (view_members self.now.cells)) result }
     {
-        let k = search::find(&self.cells, Words::NOBODY)?;
+        let k = search::free::find(&self.cells)?;
         Some(Place(k as u8))
     }
 

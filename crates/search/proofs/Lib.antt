@@ -1,2 +1,3 @@
+pub mod Freeing
 pub mod Placing
 pub mod SlotSets

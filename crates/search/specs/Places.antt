@@ -1,6 +1,7 @@
 -- IDs as four words, in four columns that lie one after another and have an entry for each place.
 use Rattle.std.specs.Prelude.{ℕ, ◌+◌, ◌-◌, ◌*◌, ◌/◌, ◌%◌, ◌≤◌, ◌<◌, ◌≡◌, Bool, true, false, Option, None, Some, ◌&&◌, List, [], ◌∷◌, eqb, get_or}
 use Rattle.rules.specs.Constants.{max_members}
+use Rattle.slots.specs.Set.{bit}
 
 -- with the columns of what else a member has
 abbrev pub column_count : ℕ
@@ -32,6 +33,20 @@ step = 16
 abbrev pub FirstIn : (ℕ → Bool) → ℕ → Option ℕ → Type 0
 FirstIn f from None = (k : ℕ) → from ≤ k → k < from + step → f k ≡ false
 FirstIn f from (Some r) = (from ≤ r) × (r < from + step) × ((k : ℕ) → from ≤ k → k < r → f k ≡ false) × (f r ≡ true)
+
+-- ---- places in words of 64 bits
+
+-- so many words, and so many places in each
+abbrev pub place_words : ℕ
+place_words = (max_members + 63) / 64
+
+abbrev pub word_places : ℕ
+word_places = max_members / place_words
+
+-- the ones of a word are those of its places, from `from` on, that pass
+pub record Marks (f : ℕ → Bool) (from word : ℕ) : Type 0 where
+  pub here : (i : ℕ) → i < word_places → bit word i ≡ f (from + i)
+  pub past : (i : ℕ) → word_places ≤ i → bit word i ≡ false
 
 -- ---- an ID of sixteen bytes as four words: the first column has the sum of the words, which stands for the first of them
 

@@ -1,4 +1,4 @@
-// The place of an ID, or the first free one, from the members' columns: 16 places at a time without a branch, by the first of its four words; then place by place.
+// The place of an ID, from the members' columns: 16 places at a time without a branch, by the first of its four words; then place by place.
 #![tactic(auto)]
 
 ghost use Rattle.std.specs.Prelude.{◌≡◌, ◌+◌, ◌≤◌, ◌<◌, eqb, count_by, slice_range};
@@ -7,6 +7,7 @@ ghost use Rattle.search.specs.Places.{cell_count, step, matches, FirstIn, FirstP
 
 use rules::MEMBERS;
 
+pub mod free; // free.rt: the lowest free place
 pub mod rising; // rising.rt: whether a list is a set of slots
 
 // The columns of the members, each with an entry for each place: the four words of the ID come first. Column c of place k is entry k + c * MEMBERS.
