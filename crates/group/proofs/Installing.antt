@@ -2,15 +2,15 @@
 -- that it refuses. Assumes nothing.
 use Rattle.std.specs.Prelude.{None, Some, if◌then◌else◌}
 use Rattle.std.specs.Prelude as P
-use Rattle.std.specs.List.{list_any, position_from, enumerate_from, fold}
-use Rattle.std.proofs.Common.{◌≡◌, ℕ, suc, ◌+◌, ◌/◌, ◌%◌, ◌^◌, ◌<◌, ◌≤◌, Bool, true, false, ◌&&◌, ◌||◌, List, [], ◌∷◌, map, length, get_or, sym, refl, ap, ◌∙◌, ap₂, add-one, arith, pow_pos, pow_mono}
+use Rattle.std.specs.List.{list_any, range_with_len, position_from, enumerate_from, fold}
+use Rattle.std.proofs.Common.{◌≡◌, ℕ, suc, ◌+◌, ◌/◌, ◌%◌, ◌^◌, ◌<◌, ◌≤◌, Bool, true, false, ◌&&◌, ◌||◌, List, [], ◌∷◌, map, length, get_or, sym, refl, ap, ◌∙◌, ap₂, zero-add, add-one, arith, pow_pos, pow_mono}
 use native.Mathlib.Nat.{div-eq_of_lt}
 use mathlib.Core.Bool.{or-false, or_assoc}
 use mathlib.Core.Option.{Option, none, some}
 use lib.ListN.{get_or-map}
 use lib.Bits.{bit_or}
 use Rattle.rules.specs.Basics.{any, first_with}
-use Rattle.rules.specs.Constants.{max_partitions, topic_count}
+use Rattle.rules.specs.Constants.{max_members, max_partitions, topic_count}
 use Rattle.rules.specs.Group as G
 use Rattle.rules.specs.Group.{includes_topic, subscribes, below_count, exists}
 use Rattle.rules.specs.Refusals.{bad_entry, first_bad, left_over, misplaced}
@@ -20,7 +20,8 @@ use Rattle.group.specs.Columns.{view_members}
 use Rattle.group.specs.View.{view}
 use Rattle.group.specs.Entries.{Wanted, FirstBad, entry_bad, slot_exists, subscription_of}
 use Rattle.group.specs.Topics.{id_at}
-use Rattle.group.proofs.Numbering.{topic_at, below_is}
+use Rattle.group.proofs.Columns.{members_long}
+use Rattle.group.proofs.Numbering.{topic_at, any_places, below_is}
 
 -- ---- bits of a subscription
 
@@ -123,10 +124,11 @@ module _ (bad : ℕ → ℕ → Bool) where
       go None f = sym same ∙ f ∙ omega arith
       go (Some s) f = (omega (arith, f.0), sym same ∙ f.1)
 
--- whether some member subscribes to a topic
-pub any_subscribed : (t : ℕ) (l : List (Option G.Member)) → list_any (includes_topic t) (map subscription_of l) ≡ any (subscribes t) l
-any_subscribed t [] = refl
-any_subscribed t (m ∷ l) = ap₂ (λ (x y : Bool). x || y) (sym (subscribes_is t m)) (any_subscribed t l)
+-- whether some member subscribes to a topic, place by place
+pub any_subscribed : (t : ℕ) (ms : List ℕ) → list_any (λ k. includes_topic t (subscription_of (get_or (view_members ms) k none))) (range_with_len 0 max_members) ≡ any (subscribes t) (view_members ms)
+any_subscribed t ms =
+    any_places (subscribes t) none (λ k. includes_topic t (subscription_of (get_or (view_members ms) k none))) 0 max_members (view_members ms) (members_long ms)
+    (λ k h. ap (λ (j : ℕ). includes_topic t (subscription_of (get_or (view_members ms) j none))) (zero-add k) ∙ sym (subscribes_is t (get_or (view_members ms) k none)))
 
 -- a topic is in the union of w and of the subscriptions of a list exactly where it is in one of them
 pub in_union : (t w : ℕ) (l : List ℕ) → includes_topic t (fold bit_or w l) ≡ includes_topic t w || any (includes_topic t) l

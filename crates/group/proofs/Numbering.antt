@@ -58,7 +58,7 @@ topics_past ids cs t x h = sym (set_out (view_topics ids cs) t x (omega (arith, 
 -- ---- the topics but that of a number
 
 -- whether an element of a list passes, place by place
-any_places : {A : Type 0} (f : A → Bool) (d : A) (p : ℕ → Bool) (i n : ℕ) (l : List A) → length l ≡ n → ((k : ℕ) → k < n → p (i + k) ≡ f (get_or l k d)) → list_any p (range_with_len i n) ≡ any f l
+pub any_places : {A : Type 0} (f : A → Bool) (d : A) (p : ℕ → Bool) (i n : ℕ) (l : List A) → length l ≡ n → ((k : ℕ) → k < n → p (i + k) ≡ f (get_or l k d)) → list_any p (range_with_len i n) ≡ any f l
 any_places f d p i zero [] e h = refl
 any_places f d p i zero (x ∷ l) e h = absurd (omega (arith, e))
 any_places f d p i (suc n) [] e h = absurd (omega (arith, e))

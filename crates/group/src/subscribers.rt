@@ -1,5 +1,4 @@
 // Tests over the columns of the members: who subscribes to a topic, and whom a sweep removes.
-ghost use Rattle.std.specs.List.{list_any};
 ghost use Rattle.std.specs.Prelude.{◌≡◌, map, slice_index_or};
 ghost use Rattle.std.proofs.Math.Option.{none};
 ghost use Rattle.rules.specs.Basics.{any};
@@ -20,19 +19,10 @@ pub(crate) fn includes_topic(subscription: u16, topic: u32) -> bool
     topic < TOPIC_END && (subscription >> topic) % 2 == 1
 }
 
-// Whether some subscription has a topic.
-fn any_includes(subscriptions: &[u16; MEMBERS], topic: u32) -> bool
-    ensures { result ≡ list_any (includes_topic topic) subscriptions.now }
-{
-    subscriptions
-        .iter()
-        .any(|subscription| includes_topic(*subscription, topic))
-}
-
 impl Members {
     // The subscription at a place, 0 where nobody is.
     #[tactic(auto, using(crate::proofs::PlaceTests::nobody, crate::proofs::PlaceTests::somebody), unfolding(crate::specs::Entries::subscription_of))]
-    fn subscribed_at(&self, p: Place) -> u16
+    pub fn subscribed_at(&self, p: Place) -> u16
         ensures { result ≡ subscription_of (slice_index_or (view_members self.now.cells) p.0 none) }
     {
         if self.is_vacant(p) {
@@ -53,11 +43,10 @@ impl Members {
     }
 
     // Whether some member subscribes to a topic.
-    #[tactic(auto, using(crate::proofs::Installing::any_subscribed))]
     pub fn any_subscribes(&self, topic: u32) -> bool
         ensures { result ≡ any (subscribes topic) (view_members self.now.cells) }
     {
-        any_includes(&self.subscriptions(), topic)
+        (0..MEMBERS as u8).any(|k| includes_topic(self.subscribed_at(Place(k)), topic))
     }
 
     // Whether a sweep at a tick removes the member at a place; `revokes`: its P is not empty.

@@ -79,7 +79,7 @@ impl Topics {
     fn other_has_id(&self, number: u32, id: Id) -> bool
         ensures { result ≡ list_any (λ k. not (k == number) && has_id id (slice_index_or (topics_in self.now) k none)) (range_with_len 0 topic_count) }
     {
-        (0..TOPIC_END).any(|i| (i != number) & self.has_id(i, id))
+        (0..TOPIC_END).any(|i| i != number && self.has_id(i, id))
     }
 
     // Whether there is no topic of a number yet, or it has this ID and no higher count.
