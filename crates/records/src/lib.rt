@@ -9,7 +9,7 @@ ghost use Rattle.records.specs.Storing.{optional_bytes, Stores};
 use rules::{ID_LENGTH, Id, Refusal};
 
 mod pairs; // one thing after another
-mod sets; // a set of slots inside a record
+pub mod sets; // a set of slots inside a record
 pub mod kinds; // a record of each kind
 pub mod batches; // what an event stores
 
@@ -64,7 +64,7 @@ impl Encode for u8 {
     }
 
     fn size(self) -> usize {
-        1
+        1 // from 128 on too
     }
 }
 

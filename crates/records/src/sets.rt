@@ -33,7 +33,7 @@ impl Encode for SlotSet {
 }
 
 // Writes the lowest slot and then each difference at the start of `buf`, and returns how many bytes that took.
-fn put_differences(buf: &mut [u8], set: SlotSet) -> usize
+pub fn put_differences(buf: &mut [u8], set: SlotSet) -> usize
     requires { length (differences 0 (slots_of set.words)) ≤ length buf.old }
     ensures { Wrote (differences 0 (slots_of set.words)) buf.old buf.new result }
 {
