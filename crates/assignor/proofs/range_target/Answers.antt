@@ -1,7 +1,7 @@
 -- The places are sorted by the IDs of the columns, and the subscriptions and the counts are the group's: so what is written is the rules' target (`all_are`).
-use Rattle.std.proofs.Common.{arith, ◌∙◌}
+use Rattle.std.proofs.Common.{rules, arith, ◌∙◌}
 use Rattle.rules.specs.Constants.{max_members}
-use Rattle.assignor.proofs.Ordering.{sorted_places}
+use Rattle.assignor.proofs.Ordering.{keys_same, sorted_places}
 use Rattle.assignor.proofs.Assigning.{all_are}
 use Rattle.assignor.proofs.range_target.Goals as goal
 
@@ -14,4 +14,4 @@ returns c =
     let k = c.of-keys in
     λ g ids topics members.
     rw (c.sorted-order.ensures, c.subscriptions-subscriptions.ensures) at c.put_topics.ensures
-    ∙ all_are g ids a.topics.now.counts topics a.members.now.cells members k.result k.ensures
+    ∙ all_are g ids a.topics.now.counts topics a.members.now.cells members _ (keys_same _ _ k.result k.ensures (search rules) (λ i h. search rules))
