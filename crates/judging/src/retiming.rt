@@ -21,7 +21,7 @@ fn retime_members(members: &mut Members, tick: u32)
 
 // A tick for every tick of a group.
 pub fn retime(group: &mut Group, tick: u32)
-    ensures { (view group.new ≡ retimed tick (view group.old)) × (group.new.tables ≡ group.old.tables) }
+    ensures { (view group.new ≡ retimed tick (view group.old)) × (group.new.topics ≡ group.old.topics) × (group.new.tables ≡ group.old.tables) }
 {
     retime_members(&mut group.members, tick);
     group.head.tick = tick;

@@ -8,7 +8,7 @@ pub returns-then-is_batch : goal.returns-then-is_batch
 returns-then-is_batch c = record {
   judges =
       λ bytes s fair. was_good _ c.args.group.now _ _ c.args.tick _ s.records c.retime.ensures.0
-      (λ still. c.run_candidate-ran.ensures bytes _ s (ap (λ (t : Tables). t.target) (sym c.retime.ensures.1)) still _ fair)
+      (λ still. c.run_candidate-ran.ensures bytes _ s (ap (λ (t : Tables). t.target) (sym c.retime.ensures.2)) still _ fair)
       (sym c.is_batch.ensures ∙ c.if-is_batch.true);
   keeps = λ e. absurd (true≢false e);
 }
@@ -17,7 +17,7 @@ pub returns : goal.returns
 returns c = record {
   judges =
       λ bytes s fair. was_bad _ c.args.group.now _ _ c.args.tick _ s.records c.retime.ensures.0
-      (λ still. c.run_candidate-ran.ensures bytes _ s (ap (λ (t : Tables). t.target) (sym c.retime.ensures.1)) still _ fair) _
+      (λ still. c.run_candidate-ran.ensures bytes _ s (ap (λ (t : Tables). t.target) (sym c.retime.ensures.2)) still _ fair) _
       (sym c.is_batch.ensures ∙ c.if-is_batch.false);
   keeps = λ e. refl;
 }
