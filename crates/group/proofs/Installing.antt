@@ -22,6 +22,7 @@ use Rattle.group.specs.Entries.{Wanted, FirstBad, entry_bad, slot_exists, subscr
 use Rattle.group.specs.Topics.{id_at}
 use Rattle.group.proofs.Columns.{members_long}
 use Rattle.group.proofs.Numbering.{topic_at, any_places, below_is}
+use Rattle.group.proofs.PlaceTests.{subscriber, subscriber_there}
 
 -- ---- bits of a subscription
 
@@ -125,10 +126,10 @@ module _ (bad : ℕ → ℕ → Bool) where
       go (Some s) f = (omega (arith, f.0), sym same ∙ f.1)
 
 -- whether some member subscribes to a topic, place by place
-pub any_subscribed : (t : ℕ) (ms : List ℕ) → list_any (λ k. includes_topic t (subscription_of (get_or (view_members ms) k none))) (range_with_len 0 max_members) ≡ any (subscribes t) (view_members ms)
+pub any_subscribed : (t : ℕ) (ms : List ℕ) → list_any (subscriber t ms) (range_with_len 0 max_members) ≡ any (subscribes t) (view_members ms)
 any_subscribed t ms =
-    any_places (subscribes t) none (λ k. includes_topic t (subscription_of (get_or (view_members ms) k none))) 0 max_members (view_members ms) (members_long ms)
-    (λ k h. ap (λ (j : ℕ). includes_topic t (subscription_of (get_or (view_members ms) j none))) (zero-add k) ∙ sym (subscribes_is t (get_or (view_members ms) k none)))
+    any_places (subscribes t) none (subscriber t ms) 0 max_members (view_members ms) (members_long ms)
+    (λ k h. ap (subscriber t ms) (zero-add k) ∙ sym (subscriber_there ms k t))
 
 -- a topic is in the union of w and of the subscriptions of a list exactly where it is in one of them
 pub in_union : (t w : ℕ) (l : List ℕ) → includes_topic t (fold bit_or w l) ≡ includes_topic t w || any (includes_topic t) l

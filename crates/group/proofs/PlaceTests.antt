@@ -7,7 +7,7 @@ use mathlib.Core.Option.{Option, none, some}
 use Rattle.rules.specs.Constants.{max_members, session_timeout}
 use Rattle.rules.specs.Effects.{due}
 use Rattle.rules.specs.Group as G
-use Rattle.rules.specs.Group.{elapsed, vacant}
+use Rattle.rules.specs.Group.{elapsed, includes_topic, subscribes, vacant}
 use Rattle.search.specs.Places.{matches}
 use Rattle.group.specs.Columns.{cell, numbers_at, seat_at, view_members}
 use Rattle.group.specs.View.{view_seat, seated}
@@ -31,6 +31,10 @@ unfolding vacant
 stands_empty None e = refl
 stands_empty (Some s) e = absurd (false≢true e)
 
+-- whether the number at a place has a topic, and somebody is there
+abbrev pub subscriber : ℕ → List ℕ → ℕ → Bool
+subscriber t ms k = includes_topic t (numbers_at ms k).subscription && not (vacant (get_or (view_members ms) k none))
+
 module _ (ms : List ℕ) (k : ℕ) where
   abbrev there : Option G.Member
   there = get_or (view_members ms) k none
@@ -49,6 +53,14 @@ module _ (ms : List ℕ) (k : ℕ) where
   -- whoever is there has the numbers that stand there
   pub somebody : vacant there ≡ false → there ≡ some (seated (numbers_at ms k))
   somebody e = seat_there ms k (seat_some e)
+
+  pub subscriber_there : (t : ℕ) → subscribes t there ≡ subscriber t ms k
+  unfolding subscribes
+  subscriber_there t = go (vacant there) refl
+    where
+      go : (v : Bool) → vacant there ≡ v → subscribes t there ≡ (includes_topic t (numbers_at ms k).subscription && not v)
+      go true e = ap (subscribes t) (nobody there e) ∙ sym (and-false (includes_topic t (numbers_at ms k).subscription))
+      go false e = ap (subscribes t) (somebody e) ∙ sym (and-true (includes_topic t (numbers_at ms k).subscription))
 
   -- its clocks: not heard for the session timeout, or giving slots back for longer than its own timeout
   abbrev pub late : ℕ → Bool → Bool

@@ -42,11 +42,13 @@ impl Members {
         all
     }
 
-    // Whether some member subscribes to a topic.
+    // Whether some member subscribes to a topic. One column says no at most places; who is there is looked at last.
     pub fn any_subscribes(&self, topic: u32) -> bool
         ensures { result ≡ any (subscribes topic) (view_members self.now.cells) }
     {
-        (0..MEMBERS as u8).any(|k| includes_topic(self.subscribed_at(Place(k)), topic))
+        (0..MEMBERS as u8).any(|k| {
+            includes_topic(self.subscription_at(Place(k)), topic) && !self.is_vacant(Place(k))
+        })
     }
 
     // Whether a sweep at a tick removes the member at a place; `revokes`: its P is not empty.
