@@ -1,9 +1,9 @@
--- The entries of an install: the test over two lists of numbers and the wanted topics is the rules' test of the group, and the library's search finds the first
--- that it refuses. Assumes nothing.
+-- The entries of an install: the test over two lists of numbers and the wanted topics is the rules' test of the group, and the first that it refuses is the
+-- rules' own, as the library's search and a loop tell it. Assumes nothing.
 use Rattle.std.specs.Prelude.{None, Some, if◌then◌else◌}
 use Rattle.std.specs.Prelude as P
 use Rattle.std.specs.List.{list_any, range_with_len, position_from, enumerate_from, fold}
-use Rattle.std.proofs.Common.{◌≡◌, ℕ, suc, ◌+◌, ◌/◌, ◌%◌, ◌^◌, ◌<◌, ◌≤◌, Bool, true, false, ◌&&◌, ◌||◌, List, [], ◌∷◌, map, length, get_or, sym, refl, ap, ◌∙◌, ap₂, zero-add, add-one, arith, pow_pos, pow_mono}
+use Rattle.std.proofs.Common.{◌≡◌, ℕ, suc, ◌+◌, ◌/◌, ◌%◌, ◌^◌, ◌<◌, ◌≤◌, Bool, true, false, ◌&&◌, ◌||◌, List, [], ◌∷◌, map, length, get_or, drop, sym, refl, ap, ◌∙◌, ap₂, zero-add, add-one, arith, drop_of_length-le, drop-cons, pow_pos, pow_mono}
 use native.Mathlib.Nat.{div-eq_of_lt}
 use mathlib.Core.Bool.{or-false, or_assoc}
 use mathlib.Core.Option.{Option, none, some}
@@ -136,3 +136,24 @@ pub in_union : (t w : ℕ) (l : List ℕ) → includes_topic t (fold bit_or w l)
 unfolding includes_topic
 in_union t w [] = sym (or-false (includes_topic t w))
 in_union t w (s ∷ l) = in_union t (bit_or w s) l ∙ ap (λ (b : Bool). b || any (includes_topic t) l) (bit_or_lem w s t) ∙ or_assoc (includes_topic t w) (includes_topic t s) (any (includes_topic t) l)
+
+-- ---- the first entry that a test refuses, from a slot on: at it, after it, or nowhere
+
+module _ (bad : ℕ → ℕ → Bool) (es : List ℕ) where
+  abbrev pub first_at : ℕ → P.Option ℕ
+  first_at s = position_from (λ (e : ℕ × ℕ). bad e.0 e.1) s (enumerate_from s (drop s es))
+
+  module _ (s : ℕ) where
+    next_entry : s < length es → first_at s ≡ (if bad s (get_or es s 0) then Some s else first_at (s + 1))
+    next_entry l =
+        ap (λ (r : List ℕ). position_from (λ (e : ℕ × ℕ). bad e.0 e.1) s (enumerate_from s r))
+        (drop-cons es s 0 l ∙ ap (λ (k : ℕ). get_or es s 0 ∷ drop k es) (sym (add-one s)))
+
+    pub first_here : s < length es → bad s (get_or es s 0) ≡ true → first_at s ≡ Some s
+    first_here l b = next_entry l ∙ rw b
+
+    pub first_later : s < length es → bad s (get_or es s 0) ≡ false → first_at (s + 1) ≡ first_at s
+    first_later l b = sym (next_entry l ∙ rw b)
+
+    pub first_nowhere : length es ≤ s → first_at s ≡ None
+    first_nowhere l = rw (drop_of_length-le es l)

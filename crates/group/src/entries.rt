@@ -54,10 +54,13 @@ impl<'a> Trial<'a> {
     fn first_bad(&self, entries: &[u8]) -> Option<usize>
         ensures { result ≡ position_from (λ e. entry_bad self.now.counts.now self.now.subscriptions self.now.wanted e.0 e.1) 0 (enumerate_from 0 entries.now) }
     {
-        entries
-            .iter()
-            .enumerate()
-            .position(|(slot, entry)| self.is_bad(slot, *entry))
+        // As it is: a search by `position` is proved only where its answer is handed on unchanged, so that a wrong order would be refused for its form alone.
+        for (slot, entry) in entries.iter().enumerate() {
+            if self.is_bad(slot, *entry) {
+                return Some(slot);
+            }
+        }
+        None
     }
 }
 
